@@ -1,5 +1,5 @@
 -- The answer to each call, and the outcome of a list of calls.
-use Rattle.std.specs.Prelude.{ℕ, ◌≡◌, List, [], ◌∷◌, Option}
+use Rattle.std.specs.Prelude.{ℕ, ◌≡◌, true, List, [], ◌∷◌, Option}
 use Rattle.service_model.specs.declared.call.ServiceCall.{ServiceCall}
 use Rattle.service_model.specs.declared.call.ServiceCall.TheVariants as call
 use Rattle.service_model.specs.declared.config.ServiceConfig.{ServiceConfig}

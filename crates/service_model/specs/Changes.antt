@@ -1,5 +1,5 @@
 -- Slots and weights, limits, the number of workers, and the close.
-use Rattle.std.specs.Prelude.{ℕ, ◌+◌, ◌≡◌, ◌==◌, nat_le, not, Bool, true, ◌&&◌, List, [], ◌∷◌, length, Option, MatchBool}
+use Rattle.std.specs.Prelude.{ℕ, ◌+◌, ◌≡◌, ◌==◌, nat_le, not, Bool, ◌&&◌, List, [], ◌∷◌, length, Option, MatchBool}
 use Rattle.std.specs.List.{filter}
 use Rattle.vt_fixed.specs.declared.limits.TheConstants.{GREATEST_WEIGHT}
 use Rattle.fq_model.specs.declared.config.Config.{Config}
@@ -69,7 +69,7 @@ abbrev pub joined : ServiceConfig → ℕ → ServiceView → ServiceView
 joined c slot v =
     with_idle
     (with_slot v slot
-        (record (slot_at v slot) { generation = (slot_at v slot).generation + 1; limit = c.most_running }))
+    (record (slot_at v slot) { generation = (slot_at v slot).generation + 1; limit = c.most_running }))
     slot
 
 -- the next generation of a slot

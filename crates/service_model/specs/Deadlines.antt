@@ -26,7 +26,7 @@ pub record IsFirstLate (v : ServiceView) (m ticket : ℕ) (q : Admitted) : Type 
   pub deadline : ℕ
   pub late : IsLateAt v m ticket deadline q
   pub first : (other later : ℕ) (p : Admitted) → IsLateAt v m other later p
-    → (deadline < later) ⊎ ((deadline ≡ later) × (ticket ≤ other))
+      → (deadline < later) ⊎ ((deadline ≡ later) × (ticket ≤ other))
 
 -- the first late request is withdrawn; nothing is declined then
 pub record WithdrawsLate (c : ServiceConfig) (m : ℕ) (v : ServiceView) (outcome : ServiceOutcome) (w : ServiceView)

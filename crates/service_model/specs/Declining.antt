@@ -1,6 +1,6 @@
 -- When a free worker declines its choice, and stays free for smaller requests: the rule of the reserve, with the numbers
 -- of the service.
-use Rattle.std.specs.Prelude.{ℕ, suc, ◌+◌, ◌-◌, ◌*◌, ◌/◌, ◌≡◌, ◌==◌, nat_lt, nat_le, Bool, false, min, max, length}
+use Rattle.std.specs.Prelude.{ℕ, ◌+◌, ◌-◌, ◌*◌, ◌/◌, nat_lt, nat_le, Bool, false, min, max, length}
 use Rattle.vt_fixed.specs.Rounding.{ceil_div}
 use Rattle.fq_model.specs.declared.event.Foreseen.TheVariants as foreseen
 use Rattle.fq_model.specs.declared.event.ForeseenRun.{ForeseenRun}
@@ -12,7 +12,7 @@ use Rattle.worker_reserve.specs.Classes.{class_of}
 use Rattle.worker_reserve.specs.Credit.{CreditView, cap}
 use Rattle.worker_reserve.specs.Demand.{demand}
 use Rattle.worker_reserve.specs.Rule.{Declines}
-use Rattle.service_model.specs.View.{Standing, Runs, Admitted, ServiceView, how_many, has_any, is_open, of_slot, reported}
+use Rattle.service_model.specs.View.{Standing, Runs, ServiceView, how_many, has_any, is_open, of_slot, reported}
 
 -- what workers may spend on staying free
 abbrev pub budget_of : CreditView → Budget
@@ -55,9 +55,9 @@ class_beside estimate = class_of (estimate / 8)
 pub record WorkerDeclines (m : ℕ) (v : ServiceView) (worker declining : ℕ) : Type 0 where
   pub choice : ForeseenRun
   pub foreseen_is : IsForeseen v.present.config v.present.history m worker (small_below choice.estimate)
-    (foreseen.Run choice)
+      (foreseen.Run choice)
   pub declines : Declines (budget_of v.credit) (question v choice declining)
-    (demand v.reserve.ends m (class_beside choice.estimate)) (demand v.reserve.visits m (class_beside choice.estimate))
+      (demand v.reserve.ends m (class_beside choice.estimate)) (demand v.reserve.visits m (class_beside choice.estimate))
 
 -- how many microseconds later this number of workers, which decline, are asked again at the latest: as long as the
 -- credit lasts for all of them, but 61 at least, and 1,000 at most

@@ -1,5 +1,5 @@
 -- The end of a request, and what may go then.
-use Rattle.std.specs.Prelude.{ℕ, ◌-◌, ◌≡◌, ◌==◌, not, ◌&&◌, min, max, length, is_none, MatchBool}
+use Rattle.std.specs.Prelude.{ℕ, ◌-◌, ◌≡◌, not, ◌&&◌, min, max, length, is_none, MatchBool}
 use Rattle.std.specs.List.{FoldsTo, range_with_len}
 use Rattle.vt_fixed.specs.declared.limits.TheConstants.{GREATEST_COST}
 use Rattle.fq_model.specs.declared.event.Call.TheVariants as call
@@ -54,8 +54,8 @@ pub record Finishes (c : ServiceConfig) (m : ℕ) (v : ServiceView) (worker cost
   pub released : ServiceView
   pub releases : Releases c m q.slot ended released
   pub releases_each : MatchBool (runs_before v && not (runs_before ended))
-    (ReleasesEach c m released w)
-    (w ≡ released)
+      (ReleasesEach c m released w)
+      (w ≡ released)
 
 -- the answer to finish
 abbrev pub AnswersFinish : ServiceConfig → ℕ → ServiceView → ℕ → ℕ → ServiceOutcome → ServiceView → Type 0

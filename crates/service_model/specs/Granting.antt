@@ -6,7 +6,7 @@ use Rattle.fq_model.specs.declared.event.Reply.TheVariants as answer
 use Rattle.service_model.specs.declared.config.ServiceConfig.{ServiceConfig}
 use Rattle.service_model.specs.declared.outcome.ServiceOutcome.{ServiceOutcome}
 use Rattle.service_model.specs.declared.outcome.ServiceOutcome.TheVariants as told
-use Rattle.service_model.specs.View.{Run, Forwarded, Runs, Admitted, ServiceView, slot_at, has_any, is_forwarded, running_count, workers_now, ticket_on, with_standing}
+use Rattle.service_model.specs.View.{Forwarded, Runs, Admitted, ServiceView, slot_at, has_any, is_forwarded, running_count, workers_now, ticket_on, with_standing}
 use Rattle.service_model.specs.Scheduling.{MakesNow}
 use Rattle.service_model.specs.Deadlines.{has_late, WithdrawsLate, earlier, least_deadline, just_after}
 use Rattle.service_model.specs.Declining.{WorkerDeclines, pause}
@@ -82,7 +82,7 @@ pub record FirstTakes (m : ℕ) (v : ServiceView) (workers : List ℕ) (outcome 
   pub worker : ℕ
   pub asked : slice_get workers declining ≡ Some worker
   pub before : (place other : ℕ) → place < declining → slice_get workers place ≡ Some other
-    → WorkerDeclines m v other place
+      → WorkerDeclines m v other place
   pub takes : ¬ WorkerDeclines m v worker declining
   pub grants : Grants m v worker outcome w
 

@@ -1,16 +1,14 @@
 -- The first fault of a configuration, and a service that was just opened.
-use Rattle.std.specs.Prelude.{ℕ, ◌+◌, ◌*◌, ◌==◌, not, false, nat_lt, List, [], ◌∷◌, length, replicate, Option, Some, None, is_some}
+use Rattle.std.specs.Prelude.{ℕ, ◌+◌, ◌*◌, ◌==◌, not, false, nat_lt, [], ◌∷◌, length, replicate, Option, Some, None}
 use Rattle.std.specs.List.{range_with_len}
 use Rattle.fq_model.specs.declared.config.Config.{Config}
 use Rattle.fq_model.specs.declared.config.ConfigFault.{ConfigFault}
 use Rattle.fq_model.specs.Limits.{long_config_fault}
 use Rattle.fq_model.specs.Rows.{first_true}
-use Rattle.worker_reserve.specs.Credit.{CreditView}
-use Rattle.worker_reserve.specs.Reserve.{ReserveView}
 use Rattle.service_model.specs.declared.config.ServiceConfig.{ServiceConfig}
 use Rattle.service_model.specs.declared.config.ServiceFault.{ServiceFault}
 use Rattle.service_model.specs.declared.config.ServiceFault.TheVariants as fault
-use Rattle.service_model.specs.View.{Scheduler, SlotView, ServiceView}
+use Rattle.service_model.specs.View.{Scheduler, ServiceView}
 
 -- how many entries each history has at least: 8 for each place of the room, and 4 for each worker
 abbrev pub least_entries : Config → ℕ
@@ -19,8 +17,10 @@ least_entries C = 8 * C.requests + 4 * C.workers
 -- the first fault beside those of the scheduler's configuration
 abbrev pub own_fault : ServiceConfig → Option ServiceFault
 own_fault c = first_true
-    ((nat_lt c.scheduler.entries (least_entries c.scheduler),
-        fault.Entries c.scheduler.entries (least_entries c.scheduler))
+    ((
+      nat_lt c.scheduler.entries (least_entries c.scheduler),
+      fault.Entries c.scheduler.entries (least_entries c.scheduler),
+    )
     ∷ (nat_lt (length c.scheduler.weights) c.named, fault.Named c.named)
     ∷ (not (length c.kind_most_running == c.scheduler.kinds), fault.KindLimits (length c.kind_most_running))
     ∷ (nat_lt 1000000 c.idle_ppm, fault.IdlePart c.idle_ppm)
@@ -43,7 +43,7 @@ abbrev pub opened : ServiceConfig → ServiceView
 opened c = record {
   admitted = [];
   slots =
-    replicate (length c.scheduler.weights) (record { generation = 0; limit = c.most_running; began_to_wait = None });
+      replicate (length c.scheduler.weights) (record { generation = 0; limit = c.most_running; began_to_wait = None });
   idle = range_with_len 0 (length c.scheduler.weights);
   rolls = 0;
   present = opened_scheduler c.scheduler;

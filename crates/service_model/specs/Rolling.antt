@@ -1,5 +1,5 @@
 -- One scheduler follows another where the present one lacks room.
-use Rattle.std.specs.Prelude.{ℕ, suc, ◌≡◌, ◌==◌, not, Bool, true, false, ◌&&◌, if◌then◌else◌, List, [], ◌∷◌, ◌++◌, map, length, MatchBool}
+use Rattle.std.specs.Prelude.{ℕ, suc, ◌≡◌, ◌==◌, not, Bool, ◌&&◌, if◌then◌else◌, List, [], ◌∷◌, ◌++◌, map, length, MatchBool}
 use Rattle.std.specs.List.{filter}
 use Rattle.fq_model.specs.declared.config.Config.{Config}
 use Rattle.fq_model.specs.declared.event.Call.{Call}
@@ -10,7 +10,7 @@ use Rattle.fq_model.specs.History.{weight_at}
 use Rattle.fq_model.specs.Outcome.{OutcomeFrom}
 use Rattle.fq_model.specs.Sums.{list_below}
 use Rattle.service_model.specs.declared.config.ServiceConfig.{ServiceConfig}
-use Rattle.service_model.specs.View.{Scheduler, Standing, Held, Forwarded, Admitted, ServiceView, is_forwarded, runs_before, workers_now}
+use Rattle.service_model.specs.View.{Scheduler, Standing, Forwarded, Admitted, ServiceView, is_forwarded, runs_before, workers_now}
 use Rattle.service_model.specs.Scheduling.{service_caller, MakesNow, lacks_room}
 
 -- the submit of an admitted request to a scheduler, at m
