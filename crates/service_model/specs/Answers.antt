@@ -1,5 +1,6 @@
 -- The answer to each call, and the outcome of a list of calls.
-use Rattle.std.specs.Prelude.{ℕ, ◌≡◌, true, List, [], ◌∷◌, Option}
+use Rattle.std.specs.Prelude.{ℕ, ◌≡◌, true, min, List, [], ◌∷◌, Option, Some, None}
+use Rattle.vt_fixed.specs.declared.limits.TheConstants.{GREATEST_MOMENT}
 use Rattle.service_model.specs.declared.call.ServiceCall.{ServiceCall}
 use Rattle.service_model.specs.declared.call.ServiceCall.TheVariants as call
 use Rattle.service_model.specs.declared.config.ServiceConfig.{ServiceConfig}
@@ -33,13 +34,18 @@ named_moment (call.Close moment) = moment
 abbrev pub moment_of_call : ServiceView → ServiceCall → ℕ
 moment_of_call v made = effective_moment v (named_moment made)
 
+-- a deadline is a moment: one above the greatest counts as that
+abbrev pub effective_deadline : Option ℕ → Option ℕ
+effective_deadline None = None
+effective_deadline (Some deadline) = Some (min deadline GREATEST_MOMENT)
+
 -- a request that comes at m, before it is known where it stands
 abbrev pub coming : ℕ → ℕ → ℕ → ℕ → Option ℕ → ℕ → Admitted
 coming m slot kind declared deadline label = record {
   slot = slot;
   kind = kind;
   declared = declared;
-  deadline = deadline;
+  deadline = effective_deadline deadline;
   label = label;
   came = m;
   stands = Held;

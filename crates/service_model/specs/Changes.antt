@@ -1,5 +1,5 @@
 -- Slots and weights, limits, the number of workers, and the close.
-use Rattle.std.specs.Prelude.{ℕ, ◌+◌, ◌≡◌, ◌==◌, nat_le, not, Bool, ◌&&◌, List, [], ◌∷◌, length, Option, MatchBool}
+use Rattle.std.specs.Prelude.{ℕ, ◌+◌, ◌≡◌, ◌==◌, nat_lt, nat_le, not, Bool, ◌&&◌, List, [], ◌∷◌, length, Option, MatchBool}
 use Rattle.std.specs.List.{filter}
 use Rattle.vt_fixed.specs.declared.limits.TheConstants.{GREATEST_WEIGHT}
 use Rattle.fq_model.specs.declared.config.Config.{Config}
@@ -13,6 +13,7 @@ use Rattle.fq_model.specs.Limits.{is_outside}
 use Rattle.fq_model.specs.Rows.{first_true}
 use Rattle.worker_reserve.specs.Credit.{with_workers}
 use Rattle.service_model.specs.declared.config.ServiceConfig.{ServiceConfig}
+use Rattle.service_model.specs.declared.limits.TheConstants.{LAST_GENERATION}
 use Rattle.service_model.specs.declared.outcome.ServiceOutcome.{ServiceOutcome}
 use Rattle.service_model.specs.declared.outcome.ServiceOutcome.TheVariants.{Accepted, Slot, Refused}
 use Rattle.service_model.specs.declared.refusal.ServiceRefusal.{ServiceRefusal}
@@ -51,10 +52,13 @@ is_bad_weight C weight = is_outside 1 GREATEST_WEIGHT weight
 
 -- ---- join
 
--- the slots that may be joined: those that are idle and have no tenant from the opening on, the one that is idle for
--- longest first
+-- the slot has no tenant from the opening on, and there is a generation for its next one
+abbrev pub may_be_joined : ServiceConfig → ServiceView → ℕ → Bool
+may_be_joined c v slot = nat_le c.named slot && nat_lt (slot_at v slot).generation LAST_GENERATION
+
+-- the slots that may be joined: the one that is idle for longest comes first
 abbrev pub joinable : ServiceConfig → ServiceView → List ℕ
-joinable c v = filter (λ slot. nat_le c.named slot) v.idle
+joinable c v = filter (may_be_joined c v) v.idle
 
 -- why a join is refused, but for want of room in the scheduler, if it is
 abbrev pub join_cause : ServiceConfig → ServiceView → ℕ → Option ServiceRefusal

@@ -9,6 +9,7 @@ use Rattle.waiting_room.specs.declared.refusal.Refusal.{Refusal}
 use Rattle.waiting_room.specs.declared.refusal.Refusal.TheVariants as room
 use Rattle.waiting_room.specs.Room.{refusal}
 use Rattle.service_model.specs.declared.config.ServiceConfig.{ServiceConfig}
+use Rattle.service_model.specs.declared.limits.TheConstants.{MOST_TICKETS}
 use Rattle.service_model.specs.declared.outcome.ServiceOutcome.{ServiceOutcome}
 use Rattle.service_model.specs.declared.outcome.ServiceOutcome.TheVariants.{Ticket, Refused}
 use Rattle.service_model.specs.declared.refusal.ServiceRefusal.{ServiceRefusal}
@@ -51,6 +52,7 @@ submit_cause c v m generation q = first_true
     ∷ (is_before q.deadline m, cause_of.Late (moment_of_deadline q.deadline))
     ∷ (is_too_many (refusal (room_of c v) q.slot), cause_of.TooManyWait)
     ∷ (is_tenant_full (refusal (room_of c v) q.slot), cause_of.TenantFull)
+    ∷ (nat_le MOST_TICKETS (length v.admitted), cause_of.Full)
     ∷ [])
 
 -- the slot after the admission of a request at m: where nothing of its tenant waits the tenant begins to wait

@@ -5,7 +5,7 @@
 #[derive(Clone, Copy, PartialEq, Eq)]
 pub enum ServiceCall {
     /// A request comes, of the tenant that has this slot in this generation. `declared` is the cost that its submitter
-    /// names, 1 to 10^9; after `deadline` it is not granted; `label` is any number of the submitter's own.
+    /// names, 1 to 10^9; after `deadline`, a moment, it is not granted; `label` is any number of the submitter's own.
     Submit {
         moment: u64,
         slot: u32,

@@ -4,6 +4,7 @@
 
 pub mod call;
 pub mod config;
+pub mod limits;
 pub mod outcome;
 pub mod refusal;
 

@@ -21,8 +21,8 @@ pub enum ServiceRefusal {
     TooManyWait,
     /// As many requests of the tenant wait as may.
     TenantFull,
-    /// The history lacks room, and requests still run in the one before it. The call may be made again once they have
-    /// ended.
+    /// The history lacks room, and requests still run in the one before it: the call may be made again once they have
+    /// ended. Or all tickets are given.
     Full,
     /// The worker runs nothing.
     NotRunning,
