@@ -16,3 +16,5 @@ pub mod Granting
 pub mod Finishing
 pub mod Changes
 pub mod Answers
+pub mod Runs
+pub mod Laws
