@@ -119,8 +119,8 @@ AnswersWeight c m v slot weight outcome w =
 abbrev pub limit_cause : ServiceView → ℕ → Option ServiceRefusal
 limit_cause v slot = first_true ((is_no_slot v slot, cause_of.Tenant slot) ∷ [])
 
--- The answer to a limit that no cause refuses: what the tenant holds may go by the new one. What is forwarded stays so,
--- even where it is more than the new limit.
+-- The answer to a limit that no cause refuses: what the tenant holds may go by the new one. What is forwarded stays
+-- so, even where it is more than the new limit.
 abbrev pub AnswersLimit : ServiceConfig → ℕ → ServiceView → ℕ → ℕ → ServiceOutcome → ServiceView → Type 0
 AnswersLimit c m v slot most outcome w =
     (outcome ≡ Accepted) × Releases c m slot (with_slot v slot (record (slot_at v slot) { limit = most })) w

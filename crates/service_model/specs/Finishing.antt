@@ -16,8 +16,8 @@ use Rattle.service_model.specs.Limits.{Releases}
 use Rattle.service_model.specs.Idling.{with_end_of}
 use Rattle.service_model.specs.Rows.{IsAnswered}
 
--- the cost of a run that ends at this one: raised to 1, to the greatest use that its worker named and to the last report,
--- and lowered to the greatest cost
+-- the cost of a run that ends at this one: raised to 1, to the greatest use that its worker named and to the last
+-- report, and lowered to the greatest cost
 abbrev pub cost_at_end : ServiceView → Run → ℕ → ℕ
 cost_at_end v run cost = min (max (max 1 cost) (max run.named (reported v run))) GREATEST_COST
 
@@ -40,8 +40,8 @@ with_ended m v ticket q run cost =
 abbrev pub ReleasesEach : ServiceConfig → ℕ → ServiceView → ServiceView → Type 0
 ReleasesEach c m v w = FoldsTo (λ u slot x. Releases c m slot u x) v (range_with_len 0 (length v.slots)) w
 
--- The run of a worker ends at m. Then what its tenant holds may go; and, where it was the last that ran in a scheduler
--- before the present one, so that there may be a next one again, what all tenants hold.
+-- The run of a worker ends at m. Then what its tenant holds may go; and, where it was the last that ran in a
+-- scheduler before the present one, so that there may be a next one again, what all tenants hold.
 pub record Finishes (c : ServiceConfig) (m : ℕ) (v : ServiceView) (worker cost : ℕ) (w : ServiceView) : Type 0 where
   pub ticket : ℕ
   pub q : Admitted

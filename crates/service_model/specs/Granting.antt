@@ -19,20 +19,21 @@ use Rattle.service_model.specs.Rows.{IsAnswered}
 abbrev pub with_declining : ServiceView → ℕ → ℕ → ServiceView
 with_declining v m declining = record v { declining = declining; asked_again = m + pause v declining }
 
--- when something may be to do without a call: just after the least deadline of what waits, or when workers that decline
--- are asked again
+-- when something may be to do without a call: just after the least deadline of what waits, or when workers that
+-- decline are asked again
 abbrev pub rests_until : ServiceView → ℕ → ℕ → Option ℕ
 rests_until v m declining =
     earlier (just_after (least_deadline v.admitted)) (if declining == 0 then None else Some (m + pause v declining))
 
 -- nothing more is to do at m, and this number of workers decline
 abbrev pub Rests : ℕ → ServiceView → ℕ → ServiceOutcome → ServiceView → Type 0
-Rests m v declining outcome w = IsAnswered (told.Rest (rests_until v m declining)) (with_declining v m declining) outcome w
+Rests m v declining outcome w =
+    IsAnswered (told.Rest (rests_until v m declining)) (with_declining v m declining) outcome w
 
 -- ---- grants
 
--- a tenant is a visitor at m where its last admitted submit that found nothing of it waiting is at most a second old: so
--- one that always has more waiting is none
+-- a tenant is a visitor at m where its last admitted submit that found nothing of it waiting is at most a second old:
+-- so one that always has more waiting is none
 abbrev pub is_recent : Option ℕ → ℕ → Bool
 is_recent None m = false
 is_recent (Some moment) m = nat_le m (moment + 1000000)

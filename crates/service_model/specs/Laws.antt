@@ -46,8 +46,8 @@ abbrev pub CourseOf : Option Admitted → List Step → ℕ → Type 0
 CourseOf None run ticket = HasCourse run ticket 0 0 0
 CourseOf (Some q) run ticket = CourseIs q.stands run ticket
 
--- each admitted request waits, or was granted once, or was withdrawn once; a granted one runs, or has ended once; and no
--- other is granted, withdrawn or ended
+-- each admitted request waits, or was granted once, or was withdrawn once; a granted one runs, or has ended once; and
+-- no other is granted, withdrawn or ended
 abbrev pub EachHasOneCourse : Type 0
 EachHasOneCourse = (c : ServiceConfig) (run : List Step) → service_fault c ≡ None → IsRun c run
     → (ticket : ℕ) → CourseOf (slice_get (service_after c run).admitted ticket) run ticket
@@ -86,8 +86,8 @@ abbrev pub SendNone : (Admitted → Bool) → ServiceView → List Step → Type
 SendNone test now steps = (ticket : ℕ) → is_now now (λ q. test q && is_running q) ticket ≡ true
     → count_by (sends ticket) steps ≡ 0
 
--- Of a tenant no more requests run than its limit was when the last of them was forwarded: its limit after the call which
--- forwarded that.
+-- Of a tenant no more requests run than its limit was when the last of them was forwarded: its limit after the call
+-- which forwarded that.
 abbrev pub LimitsAreKept : Type 0
 LimitsAreKept = AboutEachStep (λ c later step now. (slot : ℕ)
     → SendsSome (of_slot slot is_sent) step
@@ -228,7 +228,8 @@ has_gone (Runs run) = true
 has_gone Ended = true
 has_gone _ = false
 
--- held requests of one tenant and kind go in the order of their admission: while one is held none that came later goes
+-- held requests of one tenant and kind go in the order of their admission: while one is held none that came later
+-- goes
 abbrev pub HeldGoInOrder : Type 0
 HeldGoInOrder = AfterEachRun (λ c v. (older younger : ℕ) (p q : Admitted) → older < younger
     → slice_get v.admitted older ≡ Some p → slice_get v.admitted younger ≡ Some q
@@ -271,7 +272,7 @@ pub record IsKept (c : ServiceConfig) (v : ServiceView) : Type 0 where
   pub workers : v.credit.workers ≡ workers_now v
   pub one_each : (worker : ℕ) → how_many v (is_on worker) ≤ 1
 
--- the slots are as many as at the opening, the idle ones stand in their order, the credit is that of the present workers,
--- and a worker runs one request at most
+-- the slots are as many as at the opening, the idle ones stand in their order, the credit is that of the present
+-- workers, and a worker runs one request at most
 abbrev pub ViewIsKept : Type 0
 ViewIsKept = AfterEachRun IsKept

@@ -18,3 +18,4 @@ pub mod Changes
 pub mod Answers
 pub mod Runs
 pub mod Laws
+pub mod Worked

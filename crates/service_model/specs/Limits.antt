@@ -39,8 +39,8 @@ is_stuck c v q = lacks_room v.present (submit_call c 0 q) && runs_before v
 abbrev pub may_go : ServiceConfig → ServiceView → ℕ → Admitted → Bool
 may_go c v slot q = of_slot slot is_held q && (passes c v slot q.kind && not (is_stuck c v q))
 
--- The ticket of the oldest held request of a slot that may be forwarded now, if there is one. It is the oldest held one
--- of its kind, too, since all of one kind pass alike.
+-- The ticket of the oldest held request of a slot that may be forwarded now, if there is one. It is the oldest held
+-- one of its kind, too, since all of one kind pass alike.
 abbrev pub next_to_go : ServiceConfig → ServiceView → ℕ → Option ℕ
 next_to_go c v slot = position (may_go c v slot) v.admitted
 

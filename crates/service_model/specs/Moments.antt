@@ -1,5 +1,5 @@
--- The moment of a call, and what passes up to it: the credit of workers for staying free counts at each call, whether it
--- is refused or not.
+-- The moment of a call, and what passes up to it: the credit of workers for staying free counts at each call, whether
+-- it is refused or not.
 use Rattle.std.specs.Prelude.{ℕ, ◌-◌, min, max}
 use Rattle.vt_fixed.specs.declared.limits.TheConstants.{GREATEST_MOMENT}
 use Rattle.worker_reserve.specs.declared.credit.Passed.{Passed}
@@ -10,7 +10,8 @@ use Rattle.service_model.specs.View.{ServiceView, running_count, workers_now}
 abbrev pub last_moment : ServiceView → ℕ
 last_moment v = v.credit.moment
 
--- the moment at which a call that names m takes effect: one before the last is the last, and none is above the greatest
+-- the moment at which a call that names m takes effect: one before the last is the last, and none is above the
+-- greatest
 abbrev pub effective_moment : ServiceView → ℕ → ℕ
 effective_moment v m = min (max m (last_moment v)) GREATEST_MOMENT
 

@@ -63,8 +63,8 @@ renumbered n [] = []
 renumbered n (q ∷ qs) =
     if is_forwarded q then record q { stands = Forwarded n } ∷ renumbered (suc n) qs else q ∷ renumbered n qs
 
--- At m the next scheduler is opened, and the requests that wait in the present one move to it. What runs ends in the one
--- that is then the former. Held requests stay held.
+-- At m the next scheduler is opened, and the requests that wait in the present one move to it. What runs ends in the
+-- one that is then the former. Held requests stay held.
 pub record RollsOver (c : ServiceConfig) (m : ℕ) (v w : ServiceView) : Type 0 where
   pub next : Scheduler
   pub last : Scheduler
@@ -86,8 +86,9 @@ pub record MakesOnNext (c : ServiceConfig) (m : ℕ) (v : ServiceView) (made : C
   pub rolls_over : RollsOver c m v rolled
   pub makes : MakesNow rolled made reply w
 
--- A call that needs room: where the present scheduler lacks it and nothing runs in one before it, the next one follows
--- and answers. Else the present one answers; where something still runs before it, it may refuse for want of room.
+-- A call that needs room: where the present scheduler lacks it and nothing runs in one before it, the next one
+-- follows and answers. Else the present one answers; where something still runs before it, it may refuse for want of
+-- room.
 abbrev pub MakesWithRoom : ServiceConfig → ℕ → ServiceView → Call → Reply → ServiceView → Type 0
 MakesWithRoom c m v made reply w =
     MatchBool (lacks_room v.present made && not (runs_before v))

@@ -12,8 +12,8 @@ pub record Scheduler : Type 0 where
   pub history : History
 
 -- The run of a request: the number of the scheduler that granted it, its number there, its worker, the moment of the
--- grant, its estimate then, whether its tenant was a visitor then, and the greatest cost above 0 that its worker named
--- so far, or 0. Schedulers are numbered from 0 in the order in which they followed one another.
+-- grant, its estimate then, whether its tenant was a visitor then, and the greatest cost above 0 that its worker
+-- named so far, or 0. Schedulers are numbered from 0 in the order in which they followed one another.
 pub record Run : Type 0 where
   pub scheduler : ℕ
   pub request : ℕ
@@ -23,8 +23,8 @@ pub record Run : Type 0 where
   pub is_visitor : Bool
   pub named : ℕ
 
--- where an admitted request stands: it is held back, it waits as this request of the present scheduler, it runs, its run
--- has ended, or it was withdrawn before it ran
+-- where an admitted request stands: it is held back, it waits as this request of the present scheduler, it runs, its
+-- run has ended, or it was withdrawn before it ran
 pub data Standing : Type 0 where
   Held : Standing
   Forwarded : ℕ → Standing
@@ -49,10 +49,10 @@ pub record SlotView : Type 0 where
   pub limit : ℕ
   pub began_to_wait : Option ℕ
 
--- A service: the requests that were admitted, by ticket; the slots, by number; the slots of which nothing waits or runs,
--- the one that is idle for longest first; how many schedulers followed the first one; the present scheduler, and the one
--- before it; the credit of workers for staying free, with the last moment; the ends of requests; how many workers
--- declined at the last next, and when they are asked again; and whether it is closed.
+-- A service: the requests that were admitted, by ticket; the slots, by number; the slots of which nothing waits or
+-- runs, the one that is idle for longest first; how many schedulers followed the first one; the present scheduler,
+-- and the one before it; the credit of workers for staying free, with the last moment; the ends of requests; how many
+-- workers declined at the last next, and when they are asked again; and whether it is closed.
 pub record ServiceView : Type 0 where
   pub admitted : List Admitted
   pub slots : List SlotView
