@@ -6,8 +6,10 @@ use Rattle.fq_model.specs.Fluid.{moment_of}
 use Rattle.fq_model.specs.History.{History, request_at, is_waiting as waits_in, is_take_of, waiting, running, Runs as RunsIn}
 use Rattle.fq_model.specs.Limits.{InLimits}
 use Rattle.fq_model.specs.Rules.{IsLegal}
+use Rattle.fq_model.specs.Time.{last_moment as last_entry}
 use Rattle.waiting_room.specs.Room.{all_waiting, waiting_of, own_places, shared_of, shared_free}
 use Rattle.waiting_room.specs.Runs as rooms
+use Rattle.worker_reserve.specs.Demand.{IsPast}
 use Rattle.worker_reserve.specs.Credit.{cap, earned, spent}
 use Rattle.service_model.specs.declared.call.ServiceCall.{ServiceCall}
 use Rattle.service_model.specs.declared.config.ServiceConfig.{ServiceConfig}
@@ -17,7 +19,7 @@ use Rattle.service_model.specs.declared.refusal.ServiceRefusal.{ServiceRefusal}
 use Rattle.service_model.specs.declared.refusal.ServiceRefusal.TheVariants.{TooManyWait, TenantFull}
 use Rattle.service_model.specs.View.{Scheduler, Run, Standing, Held, Forwarded, Runs, Ended, Withdrawn, Admitted, ServiceView, slot_at, how_many, has_any, is_held, is_forwarded, is_running, is_sent, is_open, is_on, of_slot, running_count, workers_now, scheduler_of, runs_before}
 use Rattle.service_model.specs.Opening.{service_fault, opened}
-use Rattle.service_model.specs.Moments.{passed, at_moment}
+use Rattle.service_model.specs.Moments.{last_moment, passed, at_moment}
 use Rattle.service_model.specs.Room.{room_of}
 use Rattle.service_model.specs.Limits.{passes, sent_of, sent_of_kind}
 use Rattle.service_model.specs.Submission.{is_before}
@@ -180,9 +182,12 @@ StandsTruly v q (Forwarded r) = (waits_in v.present.history r ≡ true) × IsSub
 StandsTruly v q (Runs run) = IsRunIn (scheduler_of v run.scheduler).history q run
 StandsTruly v q _ = Unit {0}
 
--- what is forwarded waits in the present scheduler, and what runs runs in its own, and nothing else does
+-- what is forwarded waits in the present scheduler, each as another request, and what runs runs in its own, and nothing
+-- else does
 pub record SchedulersAgree (c : ServiceConfig) (v : ServiceView) : Type 0 where
   pub each : (ticket : ℕ) (q : Admitted) → slice_get v.admitted ticket ≡ Some q → StandsTruly v q q.stands
+  pub once : (ticket other r : ℕ) (q p : Admitted) → slice_get v.admitted ticket ≡ Some q
+      → slice_get v.admitted other ≡ Some p → q.stands ≡ Forwarded r → p.stands ≡ Forwarded r → ticket ≡ other
   pub waiting_is : waiting v.present.history ≡ how_many v is_forwarded
   pub none_wait : waiting v.former.history ≡ 0
   pub running_is : running v.present.history + running v.former.history ≡ running_count v
@@ -271,8 +276,12 @@ pub record IsKept (c : ServiceConfig) (v : ServiceView) : Type 0 where
   pub idle : (slot : ℕ) → slot < length v.slots → count_by (λ s. s == slot) v.idle ≡ idle_count v slot
   pub workers : v.credit.workers ≡ workers_now v
   pub one_each : (worker : ℕ) → how_many v (is_on worker) ≤ 1
+  pub ends : IsPast v.reserve.ends (last_moment v)
+  pub visits : IsPast v.reserve.visits (last_moment v)
+  pub present : last_entry v.present.history ≤ last_moment v
+  pub former : last_entry v.former.history ≤ last_moment v
 
 -- the slots are as many as at the opening, the idle ones stand in their order, the credit is that of the present
--- workers, and a worker runs one request at most
+-- workers, a worker runs one request at most, and nothing is later than the last call
 abbrev pub ViewIsKept : Type 0
 ViewIsKept = AfterEachRun IsKept
