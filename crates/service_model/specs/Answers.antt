@@ -32,7 +32,7 @@ named_moment (call.Close moment) = moment
 
 -- the moment at which a call takes effect
 abbrev pub moment_of_call : ServiceView → ServiceCall → ℕ
-moment_of_call v made = effective_moment v (named_moment made)
+moment_of_call v asked = effective_moment v (named_moment asked)
 
 -- a deadline is a moment: one above the greatest counts as that
 abbrev pub effective_deadline : Option ℕ → Option ℕ
@@ -76,19 +76,19 @@ AnswersAt c m v (call.Close moment) outcome w =
     RefusedOrElse (close_cause v) v outcome w (IsAnswered Accepted (record v { is_closed = true }) outcome w)
 
 -- the service v answers the call by the outcome, and is then w
-pub record Answers (c : ServiceConfig) (v : ServiceView) (made : ServiceCall) (outcome : ServiceOutcome)
+pub record Answers (c : ServiceConfig) (v : ServiceView) (asked : ServiceCall) (outcome : ServiceOutcome)
     (w : ServiceView) : Type 0 where
   pub answered : ServiceView
-  pub answers : AnswersAt c (moment_of_call v made) (at_moment v (moment_of_call v made)) made outcome answered
-  pub closes : ClosesScheduler c (moment_of_call v made) answered w
+  pub answers : AnswersAt c (moment_of_call v asked) (at_moment v (moment_of_call v asked)) asked outcome answered
+  pub closes : ClosesScheduler c (moment_of_call v asked) answered w
 
 -- from the service v on the calls are answered by the outcomes, one by one, and the service is then w
 abbrev pub OutcomesFrom : ServiceConfig → ServiceView → List ServiceCall → List ServiceOutcome → ServiceView → Type 0
 OutcomesFrom c v [] [] w = w ≡ v
-OutcomesFrom c v (made ∷ calls) (outcome ∷ outcomes) w =
-    (u : ServiceView) × Answers c v made outcome u × OutcomesFrom c u calls outcomes w
+OutcomesFrom c v (asked ∷ calls) (outcome ∷ outcomes) w =
+    (u : ServiceView) × Answers c v asked outcome u × OutcomesFrom c u calls outcomes w
 OutcomesFrom c v _ _ w = ⊥
 
--- the calls, made in order on a service that was just opened, are answered by the outcomes, and leave the service w
+-- the calls, asked in order on a service that was just opened, are answered by the outcomes, and leave the service w
 abbrev pub Outcomes : ServiceConfig → List ServiceCall → List ServiceOutcome → ServiceView → Type 0
 Outcomes c calls outcomes w = OutcomesFrom c (opened c) calls outcomes w

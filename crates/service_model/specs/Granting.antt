@@ -81,7 +81,7 @@ pub record FirstTakes (m : ℕ) (v : ServiceView) (workers : List ℕ) (outcome 
     : Type 0 where
   pub declining : ℕ
   pub worker : ℕ
-  pub asked : slice_get workers declining ≡ Some worker
+  pub worker_is : slice_get workers declining ≡ Some worker
   pub before : (place other : ℕ) → place < declining → slice_get workers place ≡ Some other
       → WorkerDeclines m v other place
   pub takes : ¬ WorkerDeclines m v worker declining

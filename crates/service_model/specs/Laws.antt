@@ -125,18 +125,18 @@ IsRoomRefusal outcome = (outcome ≡ told.Refused TooManyWait) ⊎ (outcome ≡ 
 
 -- the call submits a request for this slot
 abbrev pub IsSubmitFor : ℕ → ServiceCall → Type 0
-IsSubmitFor slot made = submitted_slot made ≡ Some slot
+IsSubmitFor slot asked = submitted_slot asked ≡ Some slot
 
 -- where the tenants share the room, one with fewer requests waiting than its own places is not refused by the room
 abbrev pub OwnPlacesAreKept : Type 0
-OwnPlacesAreKept = AtEachStep (λ c step. (slot : ℕ) → c.room_per_tenant ≡ 0 → IsSubmitFor slot step.made
+OwnPlacesAreKept = AtEachStep (λ c step. (slot : ℕ) → c.room_per_tenant ≡ 0 → IsSubmitFor slot step.asked
     → waiting_of (room_of c step.before) slot < own_places (room_of c step.before)
     → ¬ IsRoomRefusal step.outcome)
 
 -- where the tenants share the room, one that is admitted beyond its own places has then at most one shared place more
 -- than are free: so a flood of one tenant leaves half of the shared places to others, rounded down
 abbrev pub FloodsAreHalved : Type 0
-FloodsAreHalved = AtEachStep (λ c step. (slot ticket : ℕ) → c.room_per_tenant ≡ 0 → IsSubmitFor slot step.made
+FloodsAreHalved = AtEachStep (λ c step. (slot ticket : ℕ) → c.room_per_tenant ≡ 0 → IsSubmitFor slot step.asked
     → step.outcome ≡ told.Ticket ticket
     → own_places (room_of c step.before) ≤ waiting_of (room_of c step.before) slot
     → shared_of (room_of c step.after) slot ≤ shared_free (room_of c step.after) + 1)
@@ -248,16 +248,16 @@ NoneIsHeldInVain = AfterEachRun (λ c v. (ticket : ℕ) (q : Admitted) → slice
 -- ---- answers
 
 -- one outcome and one service after it, and no other, answer the call
-pub record IsAnsweredOnce (c : ServiceConfig) (v : ServiceView) (made : ServiceCall) : Type 0 where
+pub record IsAnsweredOnce (c : ServiceConfig) (v : ServiceView) (asked : ServiceCall) : Type 0 where
   pub outcome : ServiceOutcome
   pub after : ServiceView
-  pub answers : Answers c v made outcome after
-  pub alone : (other : ServiceOutcome) (w : ServiceView) → Answers c v made other w
+  pub answers : Answers c v asked outcome after
+  pub alone : (other : ServiceOutcome) (w : ServiceView) → Answers c v asked other w
       → (other ≡ outcome) × (w ≡ after)
 
 -- each call is answered, whatever its numbers, and in one way
 abbrev pub EachCallIsAnswered : Type 0
-EachCallIsAnswered = AfterEachRun (λ c v. (made : ServiceCall) → IsAnsweredOnce c v made)
+EachCallIsAnswered = AfterEachRun (λ c v. (asked : ServiceCall) → IsAnsweredOnce c v asked)
 
 -- a refused call, and a cancel of what does not wait, change nothing but the last moment, and with it the credit
 abbrev pub RefusedChangesNothing : Type 0

@@ -31,7 +31,8 @@ holds v slot kind = has_any v (of_kind slot kind is_held)
 abbrev pub goes_at_once : ServiceConfig → ServiceView → ℕ → ℕ → Bool
 goes_at_once c v slot kind = passes c v slot kind && not (holds v slot kind)
 
--- the present scheduler lacks room for the request, and no next one may follow, since something runs before it
+-- the present scheduler lacks room for the request, whatever the moment, and no next one may follow, since something
+-- runs before it
 abbrev pub is_stuck : ServiceConfig → ServiceView → Admitted → Bool
 is_stuck c v q = lacks_room v.present (submit_call c 0 q) && runs_before v
 

@@ -80,17 +80,17 @@ pub record RollsOver (c : ServiceConfig) (m : ℕ) (v w : ServiceView) : Type 0 
   }
 
 -- the next scheduler follows, and answers the call
-pub record MakesOnNext (c : ServiceConfig) (m : ℕ) (v : ServiceView) (made : Call) (reply : Reply) (w : ServiceView)
+pub record MakesOnNext (c : ServiceConfig) (m : ℕ) (v : ServiceView) (asked : Call) (reply : Reply) (w : ServiceView)
     : Type 0 where
   pub rolled : ServiceView
   pub rolls_over : RollsOver c m v rolled
-  pub makes : MakesNow rolled made reply w
+  pub makes : MakesNow rolled asked reply w
 
 -- A call that needs room: where the present scheduler lacks it and nothing runs in one before it, the next one
 -- follows and answers. Else the present one answers; where something still runs before it, it may refuse for want of
 -- room.
 abbrev pub MakesWithRoom : ServiceConfig → ℕ → ServiceView → Call → Reply → ServiceView → Type 0
-MakesWithRoom c m v made reply w =
-    MatchBool (lacks_room v.present made && not (runs_before v))
-    (MakesOnNext c m v made reply w)
-    (MakesNow v made reply w)
+MakesWithRoom c m v asked reply w =
+    MatchBool (lacks_room v.present asked && not (runs_before v))
+    (MakesOnNext c m v asked reply w)
+    (MakesNow v asked reply w)

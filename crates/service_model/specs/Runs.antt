@@ -12,7 +12,7 @@ use Rattle.service_model.specs.Answers.{moment_of_call, Answers}
 -- a call, its outcome, and the service before and after it
 pub record Step : Type 0 where
   pub before : ServiceView
-  pub made : ServiceCall
+  pub asked : ServiceCall
   pub outcome : ServiceOutcome
   pub after : ServiceView
 
@@ -27,11 +27,11 @@ IsRun c [] = Unit {0}
 IsRun c (step ∷ older) =
     IsRun c older
     × (step.before ≡ service_after c older)
-    × Answers c step.before step.made step.outcome step.after
+    × Answers c step.before step.asked step.outcome step.after
 
 -- the moment of a step
 abbrev pub moment_of_step : Step → ℕ
-moment_of_step step = moment_of_call step.before step.made
+moment_of_step step = moment_of_call step.before step.asked
 
 -- this holds of a service after each run, whatever its configuration, if it has no fault
 abbrev pub AfterEachRun : (ServiceConfig → ServiceView → Type 0) → Type 0
@@ -75,7 +75,7 @@ withdrawn_by _ _ = None
 
 -- the request of this ticket is withdrawn: taken back, or late
 abbrev pub withdraws : ℕ → Step → Bool
-withdraws ticket step = is_ticket ticket (withdrawn_by step.made step.outcome)
+withdraws ticket step = is_ticket ticket (withdrawn_by step.asked step.outcome)
 
 abbrev pub ended_by : ServiceView → ServiceCall → ServiceOutcome → Option ℕ
 ended_by v (call.Finish moment worker cost) told.Accepted = ticket_on v worker
@@ -83,7 +83,7 @@ ended_by v _ _ = None
 
 -- the run of the request of this ticket ends
 abbrev pub ends : ℕ → Step → Bool
-ends ticket step = is_ticket ticket (ended_by step.before step.made step.outcome)
+ends ticket step = is_ticket ticket (ended_by step.before step.asked step.outcome)
 
 -- the request of this ticket is admitted, and passes the test
 abbrev pub passes_test : (Admitted → Bool) → Option Admitted → Bool

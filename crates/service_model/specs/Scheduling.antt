@@ -17,24 +17,24 @@ service_caller c = c.scheduler.workers
 
 -- the scheduler answers the call by this reply, and is then t
 abbrev pub Makes : Scheduler → Call → Reply → Scheduler → Type 0
-Makes s made reply t = (t.config ≡ s.config) × Answers s.config s.history made reply t.history
+Makes s asked reply t = (t.config ≡ s.config) × Answers s.config s.history asked reply t.history
 
 -- the present scheduler answers the call by this reply, and nothing else changes
-pub record MakesNow (v : ServiceView) (made : Call) (reply : Reply) (w : ServiceView) : Type 0 where
+pub record MakesNow (v : ServiceView) (asked : Call) (reply : Reply) (w : ServiceView) : Type 0 where
   pub next : Scheduler
-  pub makes : Makes v.present made reply next
+  pub makes : Makes v.present asked reply next
   pub after : w ≡ record v { present = next }
 
 -- the scheduler before it does
-pub record MakesBefore (v : ServiceView) (made : Call) (reply : Reply) (w : ServiceView) : Type 0 where
+pub record MakesBefore (v : ServiceView) (asked : Call) (reply : Reply) (w : ServiceView) : Type 0 where
   pub next : Scheduler
-  pub makes : Makes v.former made reply next
+  pub makes : Makes v.former asked reply next
   pub after : w ≡ record v { former = next }
 
 -- the scheduler of this number answers the call by this reply: the present one, or the one before
 abbrev pub MakesAt : ServiceView → ℕ → Call → Reply → ServiceView → Type 0
-MakesAt v scheduler made reply w =
-    MatchBool (scheduler == v.rolls) (MakesNow v made reply w) (MakesBefore v made reply w)
+MakesAt v scheduler asked reply w =
+    MatchBool (scheduler == v.rolls) (MakesNow v asked reply w) (MakesBefore v asked reply w)
 
 abbrev pub is_full : Option Cause → Bool
 is_full (Some (cause.Full entries)) = true
@@ -49,4 +49,4 @@ room_call_refusal C P _ = None
 
 -- the scheduler would refuse the call for want of room in its history, and for no other cause
 abbrev pub lacks_room : Scheduler → Call → Bool
-lacks_room s made = is_full (room_call_refusal s.config s.history made)
+lacks_room s asked = is_full (room_call_refusal s.config s.history asked)

@@ -110,6 +110,7 @@ stands_on worker _ = false
 abbrev pub is_on : ℕ → Admitted → Bool
 is_on worker q = stands_on worker q.stands
 
+-- it runs, and another scheduler than this one granted it
 abbrev pub stands_outside : ℕ → Standing → Bool
 stands_outside scheduler (Runs run) = not (run.scheduler == scheduler)
 stands_outside scheduler _ = false
@@ -155,7 +156,7 @@ scheduler_of v scheduler = if scheduler == v.rolls then v.present else v.former
 abbrev pub reported : ServiceView → Run → ℕ
 reported v run = last_use (scheduler_of v run.scheduler).history run.request
 
--- the request of this ticket, q, runs on this worker, and so
+-- the request of this ticket, q, runs on this worker, and this is its run
 pub record IsOnWorker (v : ServiceView) (worker ticket : ℕ) (q : Admitted) (run : Run) : Type 0 where
   pub ticket_is : ticket_on v worker ≡ Some ticket
   pub admitted : slice_get v.admitted ticket ≡ Some q

@@ -343,6 +343,32 @@ rolls_over = record {
       ∷ [];
 }
 
+-- Three places, two workers, and so 32 entries. Of a tenant one request may be forwarded and not ended.
+abbrev pub waiting_config : ServiceConfig
+waiting_config = record (plain (scheduler_for 2 (1 ∷ 1 ∷ []) 1 3)) { room_per_tenant = 3; most_running = 1 }
+
+-- A request of tenant 0 runs in the former scheduler, and the present one is full. Tenant 1 takes back the request that
+-- waits there, so that the one that it holds passes its limit; but there is no room, and no third scheduler yet. When
+-- the request of tenant 0 has ended, what the others hold goes, too, by way of the third scheduler.
+abbrev pub former_ends : Example
+former_ends = record {
+  config = waiting_config;
+  rows =
+      (submit 0 0 0 0 5 10, Ticket 0, 1)
+      ∷ (Next 0, granted 10 0 0 0 0 5 0, 2)
+      ∷ (submit 0 1 0 0 5 11, Ticket 1, 3)
+      ∷ (submit 0 1 0 0 5 12, Ticket 2, 3)
+      ∷ weights_from 3 25
+      ++ (Weight 2 1 8, Accepted, 2)
+      ∷ weights_from 2 27
+      ++ (Weight 3 1 9, Refused cause.Full, 29)
+      ∷ (Cancel 3 1, Cancelled 11, 30)
+      ∷ (Next 3, Rest None, 30)
+      ∷ (Finish 4 0 5, Accepted, 1)
+      ∷ (Next 4, granted 12 2 0 1 0 5 4, 2)
+      ∷ [];
+}
+
 -- ---- the close
 
 -- Of the tenant one request may be forwarded and not ended, and one is held at the close. It goes when the first has
