@@ -182,8 +182,8 @@ StandsTruly v q (Forwarded r) = (waits_in v.present.history r ≡ true) × IsSub
 StandsTruly v q (Runs run) = IsRunIn (scheduler_of v run.scheduler).history q run
 StandsTruly v q _ = Unit {0}
 
--- what is forwarded waits in the present scheduler, each as another request, and what runs runs in its own, and nothing
--- else does
+-- what is forwarded waits in the present scheduler, each as another request, and what runs runs in its own, and
+-- nothing else does
 pub record SchedulersAgree (c : ServiceConfig) (v : ServiceView) : Type 0 where
   pub each : (ticket : ℕ) (q : Admitted) → slice_get v.admitted ticket ≡ Some q → StandsTruly v q q.stands
   pub once : (ticket other r : ℕ) (q p : Admitted) → slice_get v.admitted ticket ≡ Some q

@@ -18,4 +18,6 @@ pub mod Changes
 pub mod Answers
 pub mod Runs
 pub mod Laws
+pub mod Examples
 pub mod Worked
+pub mod WorkedRuns
