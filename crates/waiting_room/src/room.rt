@@ -34,11 +34,11 @@ impl Model for Room {
 }
 
 impl Room {
-    /// An empty room of this many places for 1 to 4,096 slots, and at most `per_tenant` of them for one tenant: 0 is no
+    /// An empty room of this many places for 1 to 65,536 slots, and at most `per_tenant` of them for one tenant: 0 is no
     /// such limit. All memory is taken here.
     pub fn open(alloc: Global, places: u32, slots: u32, per_tenant: u32) -> Result<Room, AllocError>
         requires at_least_one { 1 ≤ slots }
-        requires in_range { slots ≤ 4096 }
+        requires in_range { slots ≤ 65536 }
         ensures { IfOk result (λ r. r ≡ opened places slots per_tenant) }
     {
         let waiting = vec![in alloc; 0; slots as usize]?;
@@ -149,7 +149,7 @@ impl Room {
 // The places of each tenant's own.
 fn own_part(places: u32, slots: u32) -> u32
     requires at_least_one { 1 ≤ slots }
-    requires in_range { slots ≤ 4096 }
+    requires in_range { slots ≤ 65536 }
     ensures part { result ≡ own_part places slots }
     ensures few { slots * result ≤ places }
 {
