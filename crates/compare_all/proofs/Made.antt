@@ -1,5 +1,5 @@
 -- The result for a pair, by its simulated history.
-use Rattle.std.proofs.Common.{ℕ, ◌+◌, ◌≤◌, ◌≡◌, subst, sym, arith, Bool, true, false, not, [], ◌∷◌, length, None, Some, is_some, unwrap_or, Result, Ok, Err}
+use Rattle.std.proofs.Common.{ℕ, ◌+◌, ◌≤◌, ◌≡◌, ap, subst, sym, arith, Bool, true, false, not, [], ◌∷◌, length, None, Some, is_some, unwrap_or, Result, Ok, Err}
 use Rattle.std.proofs.Math.Nat.{div-le_self}
 use Rattle.fq_model.specs.declared.config.Config.{Config}
 use Rattle.fq_model.specs.declared.config.Estimator.{Estimator}

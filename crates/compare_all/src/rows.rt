@@ -140,7 +140,8 @@ fn row_of_history(
 
 // The number of cells of this number of slots, for the tenants of a configuration.
 fn cells(slots: u64, config: &Checked) -> u64
-    requires { slots ≤ GREATEST_MOMENT + 1 }
+    requires text { HasTextLimits config.now }
+    requires slots { slots ≤ GREATEST_MOMENT + 1 }
     ensures { result ≡ slots * length config.now.weights }
 {
     slots * config.tenants() as u64
