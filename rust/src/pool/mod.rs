@@ -182,7 +182,7 @@ impl Pool {
         self.shared.kind(name)
     }
 
-    /// The tenant has this weight from now on, 1 to 1,000. A scheduler that drains keeps the weights it has where it
+    /// The tenant has this weight from now on, 1 to 100,000. A scheduler that drains keeps the weights it has where it
     /// has no room for another entry.
     ///
     /// ```
