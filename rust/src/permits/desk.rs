@@ -185,7 +185,9 @@ impl State<Seat> {
     fn report_held(&mut self, moment: u64) {
         let refresh = self.workers.refresh.max(1);
         while let Some(&(last, worker)) = self.workers.reporting.first() {
-            let Some(held) = self.workers.held(worker).filter(|_| moment.saturating_sub(last) >= refresh) else { return };
+            let Some(held) = self.workers.held(worker).filter(|_| moment.saturating_sub(last) >= refresh) else {
+                return;
+            };
             held.last = moment;
             let used = moment - held.request.begun;
             self.workers.reporting.remove(&(last, worker));
@@ -220,5 +222,36 @@ impl State<Seat> {
         self.workers.reporting.remove(&(held.last, worker));
         let cost = cost.unwrap_or(moment.saturating_sub(held.request.begun)).clamp(1, GREATEST_COST).max(held.reported);
         self.done(worker, &Ended { request: held.request, moment, cost, panicked });
+    }
+}
+
+#[cfg(test)]
+mod tests {
+    use crate::{Estimator, KindId, Permit, Permits, Submit, TenantId};
+
+    #[test]
+    fn the_lowest_of_a_thousand_workers_with_an_eligible_request_is_found() {
+        let builder = Permits::builder().workers(1000).tenant("acme", 1).tenant("globex", 3).patience(0.0);
+        let permits = builder.estimator(Estimator::Declared).open_permits().unwrap();
+        let take = |tenant| permits.try_acquire(TenantId::new(tenant), KindId::FIRST).unwrap();
+        let mut held: Vec<Permit> = (0..999).map(|i| take(i % 2)).collect();
+        let mut found = Vec::new();
+        for step in 0..200 {
+            (0..3).for_each(|i| drop(held.swap_remove((step * 37 + i * 101) % held.len())));
+            let mut state = permits.shared().lock();
+            let moment = permits.shared().moment();
+            let request = Submit { tenant: step as u32 % 2, kind: 0, declared: 1_000_000, label: u64::MAX };
+            let submitted = state.rolling.submit(moment, request).unwrap();
+            let (low, high) = state.free().unwrap();
+            let free: Vec<u32> = (low..=high).filter(|&worker| state.workers.held(worker).is_none()).collect();
+            let wanted = free.into_iter().find(|&worker| state.rolling.is_eligible(moment, worker));
+            if let Some(wanted) = wanted {
+                assert_eq!(state.lowest_eligible(moment, low, high), wanted);
+                found.push(wanted);
+            }
+            state.rolling.withdraw(moment, submitted);
+        }
+        found.dedup();
+        assert!(found.len() > 10, "{found:?}");
     }
 }

@@ -48,7 +48,10 @@ mod tests {
     fn the_lowest_and_the_highest_are_found_in_any_word() {
         for count in [1, 2, 63, 64, 65, 128, 4096] {
             let mut set = WorkerSet::below(count);
-            assert_eq!((set.lowest(), set.highest_below(count), set.highest_below(0)), (Some(0), Some(count - 1), None));
+            assert_eq!(
+                (set.lowest(), set.highest_below(count), set.highest_below(0)),
+                (Some(0), Some(count - 1), None)
+            );
             for worker in 0..count {
                 assert_eq!(set.highest_below(worker + 1), Some(worker));
                 set.remove(worker);

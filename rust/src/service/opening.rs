@@ -115,7 +115,8 @@ impl Builder {
         signals: P::Signals,
     ) -> Result<Arc<Shared<P>>, BuildFault> {
         let most_workers = self.settings.most_workers;
-        let rolling = Rolling::open(Arc::new(self.settings), self.weights, self.workers).map_err(BuildFault::Scheduler)?;
+        let rolling =
+            Rolling::open(Arc::new(self.settings), self.weights, self.workers).map_err(BuildFault::Scheduler)?;
         let workers = workers(most_workers); // which are not too many, since the scheduler is open
         let clock = Clock { start: Instant::now(), measure: self.measure };
         Ok(Arc::new(Shared::new(State::new(rolling, workers, clock), self.refresh, signals)))
