@@ -14,6 +14,8 @@ static const uint64_t greatest_initial = GREATEST_COST;
 static uint32_t weights[MOST_TENANTS];
 static twodfq scheduler;
 static a_model model;
+static uint64_t most_cost = GREATEST_COST; // of those drawn
+static uint32_t few;                       // how many tenants send half of the requests, and so have queues
 static uint64_t state = 7, compared, kinds_seen; // of the numbers drawn; the replies compared; a bit for each of their kinds
 
 // A number below n, by a linear congruence.
@@ -72,6 +74,7 @@ static void open_both(const twodfq_opening *opening, uint32_t tenants) {
         exit(1);
     }
     model = model_open(opening, weights, tenants);
+    few = 1 + tenants / 50;
 }
 
 static void free_both(void) {
@@ -90,10 +93,9 @@ static uint32_t worker_that(bool runs) {
 }
 
 static void submit(uint64_t moment) {
-    // half of the requests are of a few tenants, which so have queues
-    uint32_t tenant = (uint32_t)draw(by_lot(500) ? model.tenant_count : 1 + model.tenant_count / 50);
+    uint32_t tenant = (uint32_t)draw(by_lot(500) ? model.tenant_count : few);
     uint32_t kind = (uint32_t)draw(model.opening.kinds);
-    uint64_t declared = any(GREATEST_COST), label = draw(UINT64_MAX);
+    uint64_t declared = any(most_cost), label = draw(UINT64_MAX);
     if (by_lot(10)) tenant = model.tenant_count;
     if (by_lot(10)) kind = model.opening.kinds;
     if (by_lot(10)) declared = by_lot(500) ? 0 : GREATEST_COST + 1;
@@ -102,7 +104,7 @@ static void submit(uint64_t moment) {
 
 static void take(uint64_t moment) {
     uint32_t worker = by_lot(950) ? worker_that(false) : (uint32_t)draw(model.opening.workers + 1);
-    uint64_t below = any(GREATEST_COST);
+    uint64_t below = any(most_cost);
     if (by_lot(250)) BOTH(foresee, moment, worker, below);
     BOTH(take, worker, moment, worker);
 }
@@ -111,7 +113,7 @@ static void use(uint64_t moment, bool is_over) {
     uint32_t worker = by_lot(980) ? worker_that(true) : (uint32_t)draw(model.opening.workers + 1), number = NO_REQUEST;
     if (worker < model.opening.workers) number = model.on_worker[worker];
     uint64_t last = number == NO_REQUEST ? 0 : model.requests[number].used, used = last;
-    if (by_lot(800)) used += draw(any(GREATEST_COST - last + 1));
+    if (by_lot(800)) used += draw(any(most_cost - last + 1));
     if (by_lot(10)) used = by_lot(500) ? GREATEST_COST + 1 : last - (last > 0);
     if (is_over) BOTH(done, worker, moment, worker, used);
     else BOTH(report, worker, moment, worker, used);
@@ -175,6 +177,23 @@ static void history(uint32_t policy, uint32_t estimate, uint32_t workers, uint32
     free_both();
 }
 
+// Lengths of a few steps, and a virtual time that takes some microseconds for a step, since most tenants have a long
+// request and the greatest weight: so the others are eligible by a step, or not.
+static void slow_time(uint32_t policy) {
+    const uint32_t tenants = 10000, short_ones = 4;
+    twodfq_opening opening = { .workers = 97, .kinds = 3, .entries = 4 * tenants, .requests = 2 * tenants, .policy = policy,
+        .estimate = TWODFQ_DECLARED, .initial = 1 };
+    for (uint32_t t = 0; t < tenants; t++) weights[t] = GREATEST_WEIGHT - t % 7;
+    open_both(&opening, tenants);
+    few = short_ones;
+    for (uint32_t t = 0; t < tenants; t++) BOTH(submit, MOST_WORKERS, 0, t, 0, t < short_ones ? 1 + t % 5 : GREATEST_COST, 0);
+    most_cost = 5;
+    calls(6000, 100);
+    drain(1000);
+    most_cost = GREATEST_COST;
+    free_both();
+}
+
 // Few tenants of the least weight, and the most workers: virtual time by the clock comes to its greatest, and later
 // tenants begin there.
 static void greatest_time(uint32_t policy) {
@@ -185,6 +204,7 @@ static void greatest_time(uint32_t policy) {
     BOTH(submit, MOST_WORKERS, 0, 0, 0, GREATEST_COST, 0);
     BOTH(take, 0, 0, 0);
     for (uint64_t moment = 1; moment < GREATEST_MOMENT / 2; moment *= 7) BOTH(report, 0, moment, 0, 1);
+    BOTH(report, 0, GREATEST_MOMENT - 1000000000, 0, 1);
     calls(500, 1000000);
     BOTH(weight, MOST_WORKERS, GREATEST_MOMENT - 1, 1, 1);
     calls(3000, 1);
@@ -219,6 +239,7 @@ int main(void) {
     for (uint32_t policy = TWODFQ_WFQ; policy <= TWODFQ_2DFQ_PLUS; policy++) {
         for (uint32_t estimate = TWODFQ_DECLARED; estimate <= TWODFQ_PESSIMISTIC; estimate++)
             for (size_t i = 0; i < sizeof sizes / sizeof *sizes; i++) history(policy, estimate, sizes[i][0], sizes[i][1], sizes[i][2]);
+        slow_time(policy);
         greatest_time(policy);
         greatest_of_all(policy, policy % 3);
     }
