@@ -1,7 +1,7 @@
-// Times the calls of a scheduler of many workers and tenants: in a service where each tenant always has one request that
-// waits, a worker that is done asks what it would take, takes it, and the tenant that it served submits again. The calls
-// are drawn by a first scheduler and made anew on a second one, whose answers have to be the same; a clock is read
-// around each. Then the dearest takes: no head is eligible, and each block of the order has one that is nearly so.
+// Times the calls of a scheduler of many workers and tenants. Each tenant always has one request that waits. A worker
+// that is done asks what it would take and takes it, and the tenant that it served submits again. A first scheduler
+// draws the calls. They are made anew on a second one, with a clock around each, and the answers have to be the same.
+// Then the dearest takes: no head is eligible, and each block of the order has one that is nearly so.
 #include <stdbool.h>
 #include <stdint.h>
 #include <stdio.h>
@@ -80,6 +80,11 @@ static void want(bool holds, const char *what) {
     exit(1);
 }
 
+// the label is the tenant
+static void submit(twodfq *scheduler, uint64_t moment, uint32_t tenant, uint64_t cost) {
+    want(twodfq_submit(scheduler, 0, moment, tenant, 0, cost, tenant).kind == TWODFQ_REQUEST, "a submit");
+}
+
 static twodfq opened(uint32_t workers, uint32_t tenants, cost_of cost) {
     twodfq_opening opening = {
         .workers = workers,
@@ -95,7 +100,7 @@ static twodfq opened(uint32_t workers, uint32_t tenants, cost_of cost) {
     want(twodfq_open(&scheduler, &opening, weights, tenants) == TWODFQ_OPENED, "no scheduler was opened");
     for (uint32_t tenant = 0; tenant < tenants; tenant++) {
         firsts[tenant] = cost(tenant);
-        want(twodfq_submit(&scheduler, 0, 0, tenant, 0, firsts[tenant], tenant).kind == TWODFQ_REQUEST, "a first submit");
+        submit(&scheduler, 0, tenant, firsts[tenant]);
     }
     return scheduler;
 }
@@ -116,7 +121,7 @@ static void draw_cycles(uint32_t workers, uint32_t tenants, cost_of cost) {
         taken[i] = costs[served[i]];
         begin(&count, (course){ taken[i], i });
         costs[served[i]] = cost(served[i]);
-        want(twodfq_submit(&scheduler, 0, 0, served[i], 0, costs[served[i]], served[i]).kind == TWODFQ_REQUEST, "a submit");
+        submit(&scheduler, 0, served[i], costs[served[i]]);
     }
     for (uint32_t at = 0; at < CYCLES; at++) {
         course end = first_end(&count);
@@ -128,7 +133,7 @@ static void draw_cycles(uint32_t workers, uint32_t tenants, cost_of cost) {
         c->request = run.request;
         c->tenant = (uint32_t)run.second;
         c->next_cost = cost(c->tenant);
-        want(twodfq_submit(&scheduler, 0, c->moment, c->tenant, 0, c->next_cost, c->tenant).kind == TWODFQ_REQUEST, "a submit");
+        submit(&scheduler, c->moment, c->tenant, c->next_cost);
         taken[c->worker] = costs[c->tenant];
         costs[c->tenant] = c->next_cost;
         begin(&count, (course){ c->moment + taken[c->worker], c->worker });
