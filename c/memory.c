@@ -50,7 +50,7 @@ static void want(const char *what, bool is_so) {
     exit(1);
 }
 
-enum { MOST_TENANTS = 4096, WORKERS = 8, ROUNDS = 8000 };
+enum { MOST_WORKERS = 4096, MOST_TENANTS = 65536, MOST_PLACES = 1048576, WORKERS = 8, ROUNDS = 8000 };
 
 static uint32_t weights[MOST_TENANTS + 1];
 
@@ -86,7 +86,7 @@ static void refuse(twodfq *to, uint32_t tenants, bool runs) {
 static void change(twodfq *of, uint32_t tenants, uint32_t round, uint64_t moment) {
     uint32_t tenant = round * 11 % tenants, last = twodfq_submit(of, 0, moment, tenant, round % 2, 10, 0).request;
     want("one is withdrawn", is(TWODFQ_WITHDRAWN, twodfq_withdraw(of, 0, moment, last)));
-    want("a weight changes", is(TWODFQ_ACCEPTED, twodfq_weight(of, 0, moment, tenant, 1 + round % 1000)));
+    want("a weight changes", is(TWODFQ_ACCEPTED, twodfq_weight(of, 0, moment, tenant, 1 + round * 997 % 100000)));
     want("the workers change", is(TWODFQ_ACCEPTED, twodfq_workers(of, 0, moment, round % 3 ? WORKERS : 1)));
 }
 
@@ -171,24 +171,52 @@ static void of_a_service(void) {
     want("all bytes come back", bytes == 0);
 }
 
-// The bytes of an opening for so many tenants with one kind each, and little else.
-static size_t bytes_for(uint32_t tenants, uint32_t policy, uint32_t estimate) {
+static size_t bytes_for(const twodfq_opening *opening, uint32_t tenants) {
     twodfq scheduler = TWODFQ_NONE;
-    twodfq_opening opening = opening_for(tenants, policy, estimate);
-    opening.kinds = 1;
-    opening.entries = opening.requests = 4;
     failing = -1;
-    want("a scheduler opens", twodfq_open(&scheduler, &opening, weights, tenants) == TWODFQ_OPENED);
+    want("a scheduler opens", twodfq_open(&scheduler, opening, weights, tenants) == TWODFQ_OPENED);
     size_t taken_by_it = bytes;
     twodfq_free(&scheduler);
     return taken_by_it;
 }
 
+// An opening with one kind, and little else.
+static twodfq_opening small(uint32_t policy, uint32_t estimate) {
+    twodfq_opening opening = opening_for(1, policy, estimate);
+    opening.workers = opening.kinds = 1;
+    opening.entries = opening.requests = 4;
+    return opening;
+}
+
 static void of_a_tenant(uint32_t policy) {
-    printf("memory: bytes for each of 4,096 tenants under policy %u, by estimate:", policy);
-    for (uint32_t estimate = TWODFQ_DECLARED; estimate <= TWODFQ_PESSIMISTIC; estimate++)
-        printf(" %zu", (bytes_for(MOST_TENANTS, policy, estimate) - bytes_for(1, policy, estimate)) / (MOST_TENANTS - 1));
+    printf("memory: bytes for each of %d tenants under policy %u, by estimate:", MOST_TENANTS, policy);
+    for (uint32_t estimate = TWODFQ_DECLARED; estimate <= TWODFQ_PESSIMISTIC; estimate++) {
+        twodfq_opening opening = small(policy, estimate);
+        printf(" %zu", (bytes_for(&opening, MOST_TENANTS) - bytes_for(&opening, 1)) / (MOST_TENANTS - 1));
+    }
     puts("");
+}
+
+static void of_a_place_and_a_worker(void) {
+    twodfq_opening few = small(TWODFQ_2DFQ_PLUS, TWODFQ_DECLARED), places = few, workers = few;
+    places.requests = MOST_PLACES;
+    workers.workers = MOST_WORKERS;
+    size_t least = bytes_for(&few, 1);
+    printf("memory: %zu bytes for each of %d places to wait, and %zu for each of %d workers\n",
+        (bytes_for(&places, 1) - least) / (MOST_PLACES - 4), MOST_PLACES, (bytes_for(&workers, 1) - least) / (MOST_WORKERS - 1),
+        MOST_WORKERS);
+}
+
+// All that there may be at once, and 1,024 entries kept.
+static void of_the_most(void) {
+    twodfq_opening most = small(TWODFQ_2DFQ_PLUS, TWODFQ_RECENT);
+    most.workers = MOST_WORKERS;
+    most.kinds = 16;
+    most.requests = MOST_PLACES;
+    most.entries = 4000000000;
+    most.keep = 1024;
+    printf("memory: %zu bytes for the most of all, with 1,024 entries kept\n", bytes_for(&most, MOST_TENANTS));
+    want("all bytes come back", bytes == 0);
 }
 
 // The weights of too many tenants are not read.
@@ -201,7 +229,7 @@ static void too_many(void) {
 }
 
 int main(void) {
-    for (uint32_t tenant = 0; tenant < MOST_TENANTS; tenant++) weights[tenant] = 1 + tenant % 1000;
+    for (uint32_t tenant = 0; tenant < MOST_TENANTS; tenant++) weights[tenant] = 1 + tenant;
     for (uint32_t policy = TWODFQ_WFQ; policy <= TWODFQ_2DFQ_PLUS; policy++) {
         printf("memory: policy %u, blocks at the opening for 64 and for %d tenants, by estimate:", policy, MOST_TENANTS);
         for (uint32_t estimate = TWODFQ_DECLARED; estimate <= TWODFQ_PESSIMISTIC; estimate++) {
@@ -214,5 +242,7 @@ int main(void) {
     of_a_service();
     of_a_tenant(TWODFQ_2DFQ);
     of_a_tenant(TWODFQ_2DFQ_PLUS);
+    of_a_place_and_a_worker();
+    of_the_most();
     too_many();
 }

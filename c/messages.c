@@ -10,13 +10,13 @@ const char *twodfq_open_message(uint32_t status) {
     case TWODFQ_OPEN_POLICY: return "no policy has this number";
     case TWODFQ_OPEN_ESTIMATE: return "no estimator has this number";
     case TWODFQ_OPEN_NO_MEMORY: return "out of memory";
-    case TWODFQ_OPEN_WORKERS: return "there may be 1 to 64 workers";
-    case TWODFQ_OPEN_TENANTS: return "there may be 1 to 4096 tenants";
-    case TWODFQ_OPEN_WEIGHT: return "a weight may be 1 to 1000";
+    case TWODFQ_OPEN_WORKERS: return "there may be 1 to 4096 workers";
+    case TWODFQ_OPEN_TENANTS: return "there may be 1 to 65536 tenants";
+    case TWODFQ_OPEN_WEIGHT: return "a weight may be 1 to 100000";
     case TWODFQ_OPEN_KINDS: return "there may be 1 to 64 kinds";
-    case TWODFQ_OPEN_PAIRS: return "there may be 65536 pairs of a tenant and a kind";
+    case TWODFQ_OPEN_PAIRS: return "there may be 1048576 pairs of a tenant and a kind";
     case TWODFQ_OPEN_ENTRIES: return "there may be 4 to 4194304 entries, and up to 4000000000 where keep is not 0";
-    case TWODFQ_OPEN_REQUESTS: return "1 to 262144 requests may wait at once";
+    case TWODFQ_OPEN_REQUESTS: return "1 to 1048576 requests may wait at once";
     case TWODFQ_OPEN_INITIAL: return "the initial estimate may be 1 to 1000000000 microseconds";
     default: return "no status of an opening has this number";
     }
@@ -43,7 +43,7 @@ const char *twodfq_reply_message(uint32_t kind) {
     case TWODFQ_REFUSED_BUSY: return "the worker runs a request already";
     case TWODFQ_REFUSED_NOT_RUNNING: return "the worker runs nothing";
     case TWODFQ_REFUSED_FALLING: return "a use or cost is less than was reported before";
-    case TWODFQ_REFUSED_WEIGHT: return "a weight may be 1 to 1000";
+    case TWODFQ_REFUSED_WEIGHT: return "a weight may be 1 to 100000";
     case TWODFQ_REFUSED_WORKERS: return "there may be 1 to as many workers as at the opening";
     case TWODFQ_REFUSED_NOT_WAITING: return "the request does not wait";
     case TWODFQ_NO_SCHEDULER: return "the handle holds no scheduler";

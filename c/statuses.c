@@ -5,7 +5,7 @@
 
 #include "twodfq.h"
 
-enum { MOST_TENANTS = 4096 };
+enum { MOST_TENANTS = 65536, MOST_KINDS = 64, MOST_PAIRS = 1048576, GREATEST_WEIGHT = 100000 };
 
 static uint32_t weights[MOST_TENANTS + 1];
 static int count;
@@ -100,34 +100,56 @@ static void finds(void) {
     twodfq_free(&scheduler);
 }
 
+// Weights and numbers of workers that change, at their limits and beyond: a refusal names the number.
+static void changes(void) {
+    twodfq scheduler = TWODFQ_NONE;
+    twodfq_opening opening = plain();
+    opening.workers = 4096;
+    opening.entries = 20;
+    want("open", twodfq_open(&scheduler, &opening, weights, 1), TWODFQ_OPENED);
+    want("the greatest weight", twodfq_weight(&scheduler, 0, 0, 0, GREATEST_WEIGHT).kind, TWODFQ_ACCEPTED);
+    want("a greater one", twodfq_weight(&scheduler, 0, 0, 0, GREATEST_WEIGHT + 1).kind, TWODFQ_REFUSED_WEIGHT);
+    want("which one", (uint32_t)twodfq_weight(&scheduler, 0, 0, 0, GREATEST_WEIGHT + 1).first, GREATEST_WEIGHT + 1);
+    want("no weight", twodfq_weight(&scheduler, 0, 0, 0, 0).kind, TWODFQ_REFUSED_WEIGHT);
+    want("the most workers", twodfq_workers(&scheduler, 0, 0, 4096).kind, TWODFQ_ACCEPTED);
+    want("more of them", twodfq_workers(&scheduler, 0, 0, 4097).kind, TWODFQ_REFUSED_WORKERS);
+    want("the last worker", twodfq_take(&scheduler, 4095, 0, 4095).kind, TWODFQ_IDLE);
+    want("the next", twodfq_take(&scheduler, 4096, 0, 4096).kind, TWODFQ_REFUSED_WORKER);
+    twodfq_free(&scheduler);
+}
+
 int main(void) {
     finds();
-    for (uint32_t tenant = 0; tenant <= MOST_TENANTS; tenant++) weights[tenant] = 1 + tenant % 1000;
+    for (uint32_t tenant = 0; tenant <= MOST_TENANTS; tenant++) weights[tenant] = 1 + tenant % GREATEST_WEIGHT;
 
-    LIMITS(workers, 1, 64, TWODFQ_OPEN_WORKERS);
-    LIMITS(kinds, 1, 64, TWODFQ_OPEN_KINDS);
+    LIMITS(workers, 1, 4096, TWODFQ_OPEN_WORKERS);
+    LIMITS(kinds, 1, MOST_KINDS, TWODFQ_OPEN_KINDS);
     LIMITS(entries, 4, 4194304, TWODFQ_OPEN_ENTRIES);
     kept = 1;
     LIMITS(entries, 4, 4000000000, TWODFQ_OPEN_ENTRIES);
     kept = 0;
-    LIMITS(requests, 1, 262144, TWODFQ_OPEN_REQUESTS);
+    LIMITS(requests, 1, 1048576, TWODFQ_OPEN_REQUESTS);
     LIMITS(initial, 1, 1000000000, TWODFQ_OPEN_INITIAL);
     twodfq_opening opening = plain();
     opens("tenants", opening, MOST_TENANTS, TWODFQ_OPENED);
     opens("tenants", opening, MOST_TENANTS + 1, TWODFQ_OPEN_TENANTS);
     opens("tenants", opening, 0, TWODFQ_OPEN_TENANTS);
-    opens("pairs", (opening.kinds = 16, opening), MOST_TENANTS, TWODFQ_OPENED);
-    opens("pairs", (opening.kinds = 17, opening), MOST_TENANTS, TWODFQ_OPEN_PAIRS);
+    opens("pairs", (opening.kinds = MOST_PAIRS / MOST_TENANTS, opening), MOST_TENANTS, TWODFQ_OPENED);
+    opens("pairs", (opening.kinds = MOST_PAIRS / MOST_TENANTS + 1, opening), MOST_TENANTS, TWODFQ_OPEN_PAIRS);
+    opens("pairs", (opening.kinds = MOST_KINDS, opening), MOST_PAIRS / MOST_KINDS, TWODFQ_OPENED);
+    opens("pairs", (opening.kinds = MOST_KINDS, opening), MOST_PAIRS / MOST_KINDS + 1, TWODFQ_OPEN_PAIRS);
     opening = plain();
     opens("policy", (opening.policy = TWODFQ_2DFQ_PLUS + 1, opening), 1, TWODFQ_OPEN_POLICY);
     opening = plain();
     opens("estimate", (opening.estimate = TWODFQ_PESSIMISTIC + 1, opening), 1, TWODFQ_OPEN_ESTIMATE);
     opening = plain();
-    opens("weight", opening, 1000, TWODFQ_OPENED);
-    weights[1] = 1001;
+    weights[1] = GREATEST_WEIGHT;
+    opens("weight", opening, 2, TWODFQ_OPENED);
+    weights[1] = GREATEST_WEIGHT + 1;
     opens("weight", opening, 2, TWODFQ_OPEN_WEIGHT);
     weights[1] = 0;
     opens("weight", opening, 2, TWODFQ_OPEN_WEIGHT);
+    changes();
 
     twodfq scheduler = TWODFQ_NONE;
     no_scheduler(&scheduler);

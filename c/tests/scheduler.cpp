@@ -93,9 +93,9 @@ static Opening with(std::uint32_t Opening::*number, std::uint32_t value) {
 
 // Each number of the opening arrives where it belongs: it alone is out of its limits, and the status says so.
 static void openings() {
-    fails("workers", with(&Opening::workers, 65), { 1 }, OpenStatus::workers);
+    fails("workers", with(&Opening::workers, 4097), { 1 }, OpenStatus::workers);
     fails("no tenant", opening(), {}, OpenStatus::tenants);
-    fails("weight", opening(), { 1, 1001 }, OpenStatus::weight);
+    fails("weight", opening(), { 1, 100001 }, OpenStatus::weight);
     fails("kinds", with(&Opening::kinds, 65), { 1 }, OpenStatus::kinds);
     fails("entries", with(&Opening::entries, 3), { 1 }, OpenStatus::entries);
     fails("requests", with(&Opening::requests, 0), { 1 }, OpenStatus::requests);
