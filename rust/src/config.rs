@@ -1,4 +1,34 @@
-//! The configuration of a scheduler.
+//! The configuration of a scheduler, and its limits.
+
+/// The most workers of a scheduler.
+pub(crate) const MOST_WORKERS: u32 = 4096;
+
+/// The most tenants.
+pub(crate) const MOST_TENANTS: u32 = 65_536;
+
+/// The greatest weight of a tenant; the least is 1.
+pub(crate) const GREATEST_WEIGHT: u32 = 100_000;
+
+/// The most kinds.
+pub(crate) const MOST_KINDS: u32 = 64;
+
+/// The most pairs of a tenant and a kind.
+pub(crate) const MOST_PAIRS: u32 = 1_048_576;
+
+/// The least room that a history may have.
+pub(crate) const LEAST_ENTRIES: u32 = 4;
+
+/// The most entries of a history that is kept whole.
+pub(crate) const MOST_WHOLE_ENTRIES: u32 = 4_194_304;
+
+/// The most entries of a history of which the last are kept.
+pub(crate) const MOST_ENTRIES: u32 = 4_000_000_000;
+
+/// The most requests that may wait at once.
+pub(crate) const MOST_REQUESTS: u32 = 1_048_576;
+
+/// The greatest cost of a request, in microseconds.
+pub(crate) const GREATEST_COST: u64 = 1_000_000_000;
 
 /// Which waiting request a worker takes.
 ///
@@ -52,16 +82,16 @@ pub enum Estimator {
 /// ```
 #[derive(Clone, Copy, Debug)]
 pub struct Config<'a> {
-    /// 1 to 64.
+    /// 1 to 4,096.
     pub workers: u32,
-    /// One weight a tenant, each 1 to 1,000; 1 to 4,096 tenants.
+    /// One weight a tenant, each 1 to 100,000; 1 to 65,536 tenants.
     pub weights: &'a [u32],
-    /// 1 to 64; tenants times kinds is at most 65,536.
+    /// 1 to 64; tenants times kinds is at most 1,048,576.
     pub kinds: u32,
     /// How many entries the history may have: 4 to 4,194,304, and up to 4,000,000,000 where `keep` is not 0. A request
     /// takes three, and each report one.
     pub entries: u32,
-    /// How many requests may wait at once: 1 to 262,144.
+    /// How many requests may wait at once: 1 to 1,048,576.
     pub requests: u32,
     pub policy: Policy,
     pub estimate: Estimator,

@@ -2,6 +2,10 @@
 use std::error::Error;
 use std::fmt;
 
+use crate::config::{
+    GREATEST_COST, GREATEST_WEIGHT, LEAST_ENTRIES, MOST_ENTRIES, MOST_KINDS, MOST_PAIRS, MOST_REQUESTS, MOST_TENANTS,
+    MOST_WHOLE_ENTRIES, MOST_WORKERS,
+};
 use crate::ffi::Reply;
 
 /// Why a call is refused, with the numbers concerned. Nothing has changed then.
@@ -36,7 +40,7 @@ pub enum Refusal {
     NotRunning,
     /// The use or cost `given` is less than `last`, the greatest use reported so far.
     Falling { last: u64, given: u64 },
-    /// A weight that is not 1 to 1,000.
+    /// A weight that is not 1 to 100,000.
     Weight(u32),
     /// A number of workers that is 0, or more than the scheduler was opened with.
     Workers(u32),
@@ -83,7 +87,7 @@ impl fmt::Display for Refusal {
             Refusal::Falling { last, given } => {
                 write!(f, "a use or cost of {given} microseconds, after a use of {last} was reported")
             }
-            Refusal::Weight(weight) => write!(f, "a weight of {weight}, and it may be 1 to 1000"),
+            Refusal::Weight(weight) => write!(f, "a weight of {weight}, and it may be 1 to {GREATEST_WEIGHT}"),
             Refusal::Workers(count) => write!(f, "{count} workers, and there may be 1 to as many as at the opening"),
             Refusal::NotWaiting(request) => write!(f, "request {request} does not wait"),
         }
@@ -135,17 +139,20 @@ impl OpenFault {
 
 impl fmt::Display for OpenFault {
     fn fmt(&self, f: &mut fmt::Formatter<'_>) -> fmt::Result {
-        f.write_str(match self {
-            OpenFault::NoMemory => "out of memory",
-            OpenFault::Workers => "there may be 1 to 64 workers",
-            OpenFault::Tenants => "there may be 1 to 4096 tenants",
-            OpenFault::Weight => "a weight may be 1 to 1000",
-            OpenFault::Kinds => "there may be 1 to 64 kinds",
-            OpenFault::Pairs => "there may be 65536 pairs of a tenant and a kind",
-            OpenFault::Entries => "there may be 4 to 4194304 entries, and up to 4000000000 where keep is not 0",
-            OpenFault::Requests => "there may be 1 to 262144 requests that wait",
-            OpenFault::Initial => "the initial estimate may be 1 to 1000000000 microseconds",
-        })
+        match self {
+            OpenFault::NoMemory => write!(f, "out of memory"),
+            OpenFault::Workers => write!(f, "there may be 1 to {MOST_WORKERS} workers"),
+            OpenFault::Tenants => write!(f, "there may be 1 to {MOST_TENANTS} tenants"),
+            OpenFault::Weight => write!(f, "a weight may be 1 to {GREATEST_WEIGHT}"),
+            OpenFault::Kinds => write!(f, "there may be 1 to {MOST_KINDS} kinds"),
+            OpenFault::Pairs => write!(f, "there may be {MOST_PAIRS} pairs of a tenant and a kind"),
+            OpenFault::Entries => {
+                let (least, whole) = (LEAST_ENTRIES, MOST_WHOLE_ENTRIES);
+                write!(f, "there may be {least} to {whole} entries, and up to {MOST_ENTRIES} where keep is not 0")
+            }
+            OpenFault::Requests => write!(f, "there may be 1 to {MOST_REQUESTS} requests that wait"),
+            OpenFault::Initial => write!(f, "the initial estimate may be 1 to {GREATEST_COST} microseconds"),
+        }
     }
 }
 

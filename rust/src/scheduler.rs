@@ -29,7 +29,7 @@ impl Scheduler {
     /// use twodfq::{Config, Scheduler, OpenFault};
     ///
     /// assert!(Scheduler::open(&Config::default()).is_ok());
-    /// let fault = Scheduler::open(&Config { workers: 65, ..Config::default() }).unwrap_err();
+    /// let fault = Scheduler::open(&Config { workers: 4097, ..Config::default() }).unwrap_err();
     /// assert_eq!(fault, OpenFault::Workers);
     /// ```
     pub fn open(config: &Config) -> Result<Scheduler, OpenFault> {
@@ -119,7 +119,7 @@ impl Scheduler {
         unsafe { ffi::twodfq_close(&mut self.handle, who, moment) }.accepted().map(drop)
     }
 
-    /// The tenant has this weight from now on, 1 to 1,000.
+    /// The tenant has this weight from now on, 1 to 100,000.
     ///
     /// ```
     /// use twodfq::{Config, Scheduler, Refusal};

@@ -93,7 +93,7 @@ fn each_cause_gives_the_job_back() {
     }
     assert!(cause(0, 0, 5).is_ok() && cause(1, 0, 5).is_ok());
     assert_eq!(cause(2, 0, 5).unwrap_err().cause, Cause::TooManyWait(2));
-    assert_eq!(pool.weight("acme", 1001), Err(Cause::Weight(1001)));
+    assert_eq!(pool.weight("acme", 100_001), Err(Cause::Weight(100_001)));
     assert_eq!(pool.weight(TenantId::new(3), 1), Err(Cause::NoTenant));
     assert_eq!(pool.workers(0), Err(Cause::Workers(0)));
     assert_eq!(pool.workers(2), Err(Cause::Workers(2)));
@@ -113,7 +113,7 @@ fn what_no_pool_is_opened_with() {
     assert!(matches!(fault(builder().entries(15)), BuildFault::Entries(15)));
     assert!(matches!(fault(builder().most_workers(3)), BuildFault::Workers(4)));
     assert!(matches!(fault(builder().workers(0)), BuildFault::Workers(0)));
-    assert!(matches!(fault(builder().workers(65)), BuildFault::Scheduler(OpenFault::Workers)));
+    assert!(matches!(fault(builder().workers(4097)), BuildFault::Scheduler(OpenFault::Workers)));
     assert!(matches!(fault(builder().tenant("a", 0)), BuildFault::Scheduler(OpenFault::Weight)));
     assert!(matches!(fault(builder().room(0)), BuildFault::Scheduler(OpenFault::Requests)));
 }

@@ -100,7 +100,7 @@ fn the_journal_comes_while_the_pool_runs() {
         thread::sleep(Duration::from_millis(1));
     }
     let head = "journal 3\nconfig 4 2dfq+ pessimistic 1000 1048576 10000\ntenant acme 1\ntenant globex 2\nkind get\n\
-                kind scan\nworkers 64 0 3\nsubmit 64 ";
+                kind scan\nworkers 4096 0 3\nsubmit 4096 ";
     assert!(text.journals()[0].starts_with(head), "{}", text.journals()[0]);
 }
 

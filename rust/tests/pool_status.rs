@@ -8,7 +8,7 @@ use std::time::{Duration, Instant};
 
 use twodfq::{KindId, Pool, TenantId};
 
-const TENANTS: u32 = 4096;
+const TENANTS: u32 = 65_536;
 
 /// The time limit of another call that nothing holds up.
 const LIMIT: Duration = Duration::from_secs(20);

@@ -261,6 +261,6 @@ fn a_journal_with_withdraws_is_legal() {
     pool.join();
     journal.join().unwrap();
     let journal = &text.journals()[0];
-    assert_eq!(journal.lines().filter(|line| line.starts_with("withdraw 64 ")).count(), 34);
+    assert_eq!(journal.lines().filter(|line| line.starts_with("withdraw 4096 ")).count(), 34);
     judge(journal);
 }

@@ -57,7 +57,7 @@ fn each_call_once() {
     assert_eq!(scheduler.report(9, 5, 0, 6), Ok(()));
     assert_eq!(scheduler.done(9, 6, 0, 4), Err(Refusal::Falling { last: 6, given: 4 }));
     assert_eq!(scheduler.done(9, 6, 0, 8), Ok(()));
-    assert_eq!(scheduler.weight(0, 7, 2, 1001), Err(Refusal::Weight(1001)));
+    assert_eq!(scheduler.weight(0, 7, 2, 100_001), Err(Refusal::Weight(100_001)));
     assert_eq!(scheduler.weight(0, 7, 2, 5), Ok(()));
     assert_eq!(scheduler.workers(0, 8, 1), Ok(()));
     assert_eq!(scheduler.take(9, 8, 3), Ok(Taken::Retired { workers: 1 }));

@@ -108,7 +108,7 @@ fn a_weight_stays_for_a_name_that_comes_back() {
     drop(hold(&permits, "hooli"));
     drop(hold(&permits, "globex"));
     assert_eq!((weight(), permits.status().tenants[0].weight), (2, 8));
-    assert_eq!(permits.weight("initech", 1001), Err(Cause::Weight(1001)));
+    assert_eq!(permits.weight("initech", 100_001), Err(Cause::Weight(100_001)));
     assert_eq!(permits.weight("globex", 0), Err(Cause::Weight(0)));
 }
 
@@ -179,10 +179,10 @@ fn how_many_tenants_there_may_be() {
     let fault = |builder: Builder| builder.open_permits().unwrap_err();
     assert!(matches!(fault(builder().tenant("a", 1).tenant("b", 1).most_tenants(1)), BuildFault::MostTenants(1)));
     assert!(matches!(fault(builder().most_tenants(0)), BuildFault::Scheduler(OpenFault::Tenants)));
-    assert!(matches!(fault(builder().most_tenants(4097)), BuildFault::Scheduler(OpenFault::Tenants)));
+    assert!(matches!(fault(builder().most_tenants(65_537)), BuildFault::Scheduler(OpenFault::Tenants)));
     assert!(matches!(fault(builder().most_tenants(9).default_weight(0)), BuildFault::Scheduler(OpenFault::Weight)));
     assert!(
         matches!(fault(builder().tenant("slot.1", 1).most_tenants(2)), BuildFault::Twice(name) if name == "slot.1")
     );
-    assert!(builder().most_tenants(4096).open_permits().is_ok());
+    assert!(builder().most_tenants(65_536).open_permits().is_ok());
 }

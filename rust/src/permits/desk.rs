@@ -4,13 +4,16 @@
 //! request is eligible. Where none is eligible for the highest free number, that permit waits for its patience, and is
 //! then granted before the request's time. Costly requests are eligible for high numbers first, so they leave the low
 //! ones to cheap requests.
+use std::collections::BTreeSet;
 use std::mem;
 use std::sync::Arc;
 
+use super::free::WorkerSet;
 use super::Permit;
+use crate::config::GREATEST_COST;
 use crate::service::admission::Request;
 use crate::service::cause::Cause;
-use crate::service::clock::{Reading, GREATEST_COST};
+use crate::service::clock::Reading;
 use crate::service::patience::Free;
 use crate::service::place::Place;
 use crate::service::shared::{Payload, Shared};
@@ -23,11 +26,9 @@ pub(crate) type Seat = Arc<Place<Result<Permit, Cause>>>;
 /// A permit that is held.
 struct Held {
     request: Running,
-    /// The moment of the grant, or of the last report.
+    /// The moment of the grant, or of the last report that it made by itself.
     last: u64,
     reported: u64,
-    /// Whether its holder reports.
-    has_reports: bool,
 }
 
 enum Worker {
@@ -38,8 +39,9 @@ enum Worker {
 /// The workers, each of which is a permit.
 pub(crate) struct Desk {
     workers: Vec<Worker>,
-    /// The free workers, a bit for each.
-    free: u64,
+    free: WorkerSet,
+    /// The held permits that report by themselves, by the moment of the grant or of the last report.
+    reporting: BTreeSet<(u64, u32)>,
     /// The free worker that waits for its patience.
     patient: Option<u32>,
     /// In microseconds.
@@ -50,12 +52,8 @@ pub(crate) struct Desk {
 impl Desk {
     pub(crate) fn new(most_workers: u32, refresh: u64) -> Desk {
         let workers = (0..most_workers).map(|worker| Worker::Free(Free::new(worker, 0))).collect();
-        Desk { workers, free: u64::MAX, patient: None, refresh, granted: Vec::new() }
-    }
-
-    /// The free workers with numbers below this, a bit for each.
-    fn free(&self, count: u32) -> u64 {
-        self.free & u64::MAX >> (64 - count)
+        let free = WorkerSet::below(most_workers);
+        Desk { workers, free, reporting: BTreeSet::new(), patient: None, refresh, granted: Vec::new() }
     }
 
     fn held(&mut self, worker: u32) -> Option<&mut Held> {
@@ -102,7 +100,7 @@ impl State<Seat> {
         request: &Request,
         seat: &mut dyn FnMut() -> Seat,
     ) -> Result<(), Cause> {
-        let none_free = self.workers.free(self.rolling.workers) == 0;
+        let none_free = self.workers.free.highest_below(self.rolling.workers).is_none();
         let slot = self.accept(moment, request, none_free.then_some(Cause::NoneFree))?;
         let ticket = self.put(moment, slot, request, seat)?;
         self.grant_all(moment);
@@ -123,33 +121,32 @@ impl State<Seat> {
                 self.patience.settle(free, moment);
             }
         }
-        let mut free = self.workers.free(self.rolling.workers);
-        if free == 0 || !self.rolling.has_waiting() {
+        if self.free().is_none() {
             return;
         }
         self.expire();
         self.report_held(moment);
-        while let Some(worker) = self.next_worker(moment, free) {
-            // an old scheduler that had no room for a change of workers may lack this worker, and have the next
-            free &= !(1 << worker);
-            if let Some(run) = self.take(Reading::wall(moment), worker) {
-                self.grant(run, worker);
-            }
+        while let Some(worker) = self.next_worker(moment) {
+            let Some(run) = self.take(Reading::wall(moment), worker) else { return };
+            self.grant(run, worker);
         }
     }
 
-    /// Which of these free workers takes next.
-    fn next_worker(&mut self, moment: u64, free: u64) -> Option<u32> {
-        if free == 0 || !self.rolling.has_waiting() {
-            return None;
-        }
-        let (low, high) = (free.trailing_zeros(), 63 - free.leading_zeros());
+    /// The lowest and the highest free worker that may take from the oldest scheduler with a request for one.
+    fn free(&self) -> Option<(u32, u32)> {
+        let low = self.workers.free.lowest()?;
+        let workers = self.rolling.served(low)?;
+        Some((low, self.workers.free.highest_below(workers)?))
+    }
+
+    /// Which free worker takes next.
+    fn next_worker(&mut self, moment: u64) -> Option<u32> {
+        let (low, high) = self.free()?;
         if self.rolling.is_eligible(moment, low) {
             return Some(low);
         }
         if self.rolling.is_eligible(moment, high) {
-            let mut others = (low + 1..high).filter(|worker| free >> worker & 1 == 1);
-            return others.find(|&worker| self.rolling.is_eligible(moment, worker)).or(Some(high));
+            return Some(self.lowest_eligible(moment, low + 1, high));
         }
         let early = self.early(moment, high);
         let Worker::Free(worker) = &mut self.workers.workers[high as usize] else { return None };
@@ -162,32 +159,48 @@ impl State<Seat> {
         Some(high)
     }
 
+    /// The lowest free worker from `least` on for which a request is eligible, as one is for the free worker `found`. What
+    /// is eligible for a worker is eligible for all above it.
+    fn lowest_eligible(&mut self, moment: u64, mut least: u32, mut found: u32) -> u32 {
+        while least < found {
+            let middle = least + (found - least) / 2;
+            match self.workers.free.highest_below(middle + 1).filter(|worker| *worker >= least) {
+                Some(worker) if self.rolling.is_eligible(moment, worker) => found = worker,
+                _ => least = middle + 1,
+            }
+        }
+        found
+    }
+
     fn grant(&mut self, run: Run<Seat>, worker: u32) {
         let Run { payload, request, .. } = run;
-        let held = Held { request, last: request.begun, reported: 0, has_reports: false };
-        self.workers.workers[worker as usize] = Worker::Held(held);
-        self.workers.free &= !(1 << worker);
-        self.workers.granted.push((payload, worker));
+        let desk = &mut self.workers;
+        desk.workers[worker as usize] = Worker::Held(Held { request, last: request.begun, reported: 0 });
+        desk.free.remove(worker);
+        desk.reporting.insert((request.begun, worker));
+        desk.granted.push((payload, worker));
     }
 
     /// Reports the time of each held permit that is due.
     fn report_held(&mut self, moment: u64) {
-        let refresh = self.workers.refresh;
-        for worker in 0..self.rolling.settings.most_workers {
-            let Some(held) = self.workers.held(worker) else { continue };
-            if !held.has_reports && moment.saturating_sub(held.last) >= refresh.max(1) {
-                let used = moment - held.request.begun;
-                self.charge(moment, worker, used);
-            }
+        let refresh = self.workers.refresh.max(1);
+        while let Some(&(last, worker)) = self.workers.reporting.first() {
+            let Some(held) = self.workers.held(worker).filter(|_| moment.saturating_sub(last) >= refresh) else {
+                return;
+            };
+            held.last = moment;
+            let used = moment - held.request.begun;
+            self.workers.reporting.remove(&(last, worker));
+            self.workers.reporting.insert((moment, worker));
+            self.charge(moment, worker, used);
         }
     }
 
     /// The holder of a permit reports its use.
     pub(crate) fn used(&mut self, moment: u64, worker: u32, cost: u64) {
-        if let Some(held) = self.workers.held(worker) {
-            held.has_reports = true;
-            self.charge(moment, worker, cost);
-        }
+        let Some(&mut Held { last, .. }) = self.workers.held(worker) else { return };
+        self.workers.reporting.remove(&(last, worker));
+        self.charge(moment, worker, cost);
     }
 
     /// Reports a use, where it is above the last.
@@ -196,7 +209,6 @@ impl State<Seat> {
         let used = used.min(GREATEST_COST);
         if used > held.reported {
             held.reported = used;
-            held.last = moment;
             let request = held.request;
             self.report(moment, worker, &request, used);
         }
@@ -206,8 +218,40 @@ impl State<Seat> {
     pub(crate) fn give_back(&mut self, moment: u64, worker: u32, cost: Option<u64>, panicked: bool) {
         let free = Worker::Free(Free::new(worker, moment));
         let Worker::Held(held) = mem::replace(&mut self.workers.workers[worker as usize], free) else { return };
-        self.workers.free |= 1 << worker;
+        self.workers.free.insert(worker);
+        self.workers.reporting.remove(&(held.last, worker));
         let cost = cost.unwrap_or(moment.saturating_sub(held.request.begun)).clamp(1, GREATEST_COST).max(held.reported);
         self.done(worker, &Ended { request: held.request, moment, cost, panicked });
+    }
+}
+
+#[cfg(test)]
+mod tests {
+    use crate::{Estimator, KindId, Permit, Permits, Submit, TenantId};
+
+    #[test]
+    fn the_lowest_of_a_thousand_workers_with_an_eligible_request_is_found() {
+        let builder = Permits::builder().workers(1000).tenant("acme", 1).tenant("globex", 3).patience(0.0);
+        let permits = builder.estimator(Estimator::Declared).open_permits().unwrap();
+        let take = |tenant| permits.try_acquire(TenantId::new(tenant), KindId::FIRST).unwrap();
+        let mut held: Vec<Permit> = (0..999).map(|i| take(i % 2)).collect();
+        let mut found = Vec::new();
+        for step in 0..200 {
+            (0..3).for_each(|i| drop(held.swap_remove((step * 37 + i * 101) % held.len())));
+            let mut state = permits.shared().lock();
+            let moment = permits.shared().moment();
+            let request = Submit { tenant: step as u32 % 2, kind: 0, declared: 1_000_000, label: u64::MAX };
+            let submitted = state.rolling.submit(moment, request).unwrap();
+            let (low, high) = state.free().unwrap();
+            let free: Vec<u32> = (low..=high).filter(|&worker| state.workers.held(worker).is_none()).collect();
+            let wanted = free.into_iter().find(|&worker| state.rolling.is_eligible(moment, worker));
+            if let Some(wanted) = wanted {
+                assert_eq!(state.lowest_eligible(moment, low, high), wanted);
+                found.push(wanted);
+            }
+            state.rolling.withdraw(moment, submitted);
+        }
+        found.dedup();
+        assert!(found.len() > 10, "{found:?}");
     }
 }

@@ -1,6 +1,7 @@
 //! Permits: leave to run, for callers that run their requests themselves.
 mod acquire;
 mod desk;
+mod free;
 mod permit;
 
 use std::fmt;
@@ -68,8 +69,8 @@ impl Permits {
     /// A builder of permits, for [`Builder::open_permits`]. Its number of workers is the number of permits.
     ///
     /// ```
-    /// let permits = twodfq::Permits::builder().workers(100.min(64)).tenant("acme", 1).open_permits().unwrap();
-    /// assert_eq!(permits.status().workers, 64);
+    /// let permits = twodfq::Permits::builder().workers(1000).tenant("acme", 1).open_permits().unwrap();
+    /// assert_eq!(permits.status().workers, 1000);
     /// ```
     pub fn builder() -> Builder {
         Builder::new()
@@ -223,7 +224,7 @@ impl Permits {
         self.shared().kind(name)
     }
 
-    /// The tenant has this weight from now on, 1 to 1,000, as by [`Pool::weight`](crate::Pool::weight).
+    /// The tenant has this weight from now on, 1 to 100,000, as by [`Pool::weight`](crate::Pool::weight).
     ///
     /// ```
     /// let permits = twodfq::Permits::builder().tenant("acme", 1).open_permits().unwrap();

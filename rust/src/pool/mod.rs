@@ -182,7 +182,7 @@ impl Pool {
         self.shared.kind(name)
     }
 
-    /// The tenant has this weight from now on, 1 to 1,000. A scheduler that drains keeps the weights it has where it
+    /// The tenant has this weight from now on, 1 to 100,000. A scheduler that drains keeps the weights it has where it
     /// has no room for another entry.
     ///
     /// ```
@@ -239,8 +239,14 @@ impl Pool {
     /// oldest scheduler that is not over, with its head alone where its first entries are kept no longer. The last ends
     /// with the pool. The writer has a thread of its own, and no worker ever waits for it.
     ///
-    /// A journal has at most 1,048,576 entries, so that `check` can read it, less those that waiting jobs may need. A
-    /// little before that, at the first submit at which no job waits, the next scheduler takes over, and has the next
+    /// `check` reads no more than 64 workers, 4,096 tenants, 65,536 pairs of a tenant and a kind, a room of 262,144 and
+    /// weights up to 1,000. The journals of a pool beyond that are written all the same, and any other reader of the
+    /// format may take them. `check` names the first number out of its range (`line 2: field 2 is out of range` where
+    /// there are more than 64 workers), and where that is an entry's weight it finds this entry not legal. In each entry
+    /// `who` is the number of the worker that made it, or 4096, which no worker has.
+    ///
+    /// A journal has at most 1,048,576 entries, so that `check` can read it, or four for each place of a room above
+    /// 262,144, less those that waiting jobs may need. A little before that, at the first submit at which no job waits, the next scheduler takes over, and has the next
     /// journal. Where jobs always wait the journal ends early, and the next begins at the first submit at which none
     /// waits. It ends early too where its writer is so slow that it finds an entry kept no longer (see
     /// [`Builder::keep`]). Where five schedulers are over before the writer has come to them, the oldest is left out.

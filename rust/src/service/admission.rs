@@ -1,19 +1,15 @@
 //! Admission of requests: refusals, slots for new tenants, and the submit or the hold.
 use std::mem;
-use std::ops::RangeInclusive;
 
 use super::cause::Cause;
-use super::clock::GREATEST_COST;
 use super::ids::{KindId, Tenant};
 use super::requests::{Submitted, Ticket, Waiting};
 use super::shared::Payload;
 use super::state::State;
 use super::trace::{Event, Owner, What};
 use super::withdraw::Withdrawn;
+use crate::config::{GREATEST_COST, GREATEST_WEIGHT};
 use crate::Submit;
-
-/// The range of weights.
-const WEIGHTS: RangeInclusive<u32> = 1..=1000;
 
 /// A request that asks for admission.
 #[derive(Clone, Copy)]
@@ -167,7 +163,7 @@ impl<P: Payload> State<P> {
     pub(crate) fn weight(&mut self, moment: u64, tenant: Tenant, weight: u32) -> Result<(), Cause> {
         match self.slots.find(tenant)? {
             Some(slot) => self.rolling.weight(moment, slot, weight).map_err(Cause::of)?,
-            None if !WEIGHTS.contains(&weight) => return Err(Cause::Weight(weight)),
+            None if !(1..=GREATEST_WEIGHT).contains(&weight) => return Err(Cause::Weight(weight)),
             None => {}
         }
         self.slots.keep_weight(tenant, weight);

@@ -2,7 +2,7 @@
 use super::builder::Builder;
 
 impl Builder {
-    /// How many requests may wait at once: 1 to 262,144, by default 10,000.
+    /// How many requests may wait at once: 1 to 1,048,576, by default 10,000.
     ///
     /// Each of `n` tenants has `room / (2 * n)` of these places for itself, and at least one where the room has one for
     /// each. All tenants share the rest, and a tenant takes at most as many shared places as it leaves free. So one

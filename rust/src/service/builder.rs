@@ -6,18 +6,17 @@ use super::clock::Measure;
 use super::names::Names;
 use super::settings::Settings;
 use super::trace::{Hook, Hooked};
+use crate::config::MOST_ENTRIES;
 use crate::{Estimator, Policy};
-
-/// The most entries that a history may have.
-pub(crate) const MOST_ENTRIES: u32 = 4_000_000_000;
 
 /// The most entries of a history whose journal `twodfq check` reads.
 const MOST_JUDGED: u32 = 1_048_576;
 
-/// A journal with the longest head and the longest lines fits in the bytes that `twodfq check` reads at most.
+/// Of the journals whose numbers `twodfq check` reads, that with the longest head and the longest lines fits in the bytes
+/// that it reads at most.
 const _: () = {
     const READ: usize = 64 << 20;
-    const ENTRY: usize = "submit 64 1000000000000000 1048576 4095 63 1000000000 262143\n".len();
+    const ENTRY: usize = "submit 4096 1000000000000000 1048576 4095 63 1000000000 262143\n".len();
     const TENANT: usize = "tenant  1000\n".len() + 64;
     const KIND: usize = "kind \n".len() + 64;
     const FIRST: usize = 100;
@@ -98,7 +97,7 @@ impl Builder {
         }
     }
 
-    /// How many workers run jobs at first, or how many permits there are: 1 to 64, by default 4.
+    /// How many workers run jobs at first, or how many permits there are: 1 to 4,096, by default 4.
     ///
     /// ```
     /// let pool = twodfq::Pool::builder().tenant("acme", 1).workers(8).open().unwrap();
@@ -121,8 +120,8 @@ impl Builder {
         self
     }
 
-    /// One more tenant, of a weight from 1 to 1,000; 1 to 4,096 tenants. They are numbered from 0. A name has 1 to 64
-    /// ASCII letters, digits, `_`, `-` and `.`.
+    /// One more tenant, of a weight from 1 to 100,000; 1 to 65,536 tenants. They are numbered from 0. A name has 1 to
+    /// 64 ASCII letters, digits, `_`, `-` and `.`.
     ///
     /// ```
     /// use twodfq::{Pool, TenantId};
@@ -136,7 +135,7 @@ impl Builder {
         self
     }
 
-    /// How many tenants there may be at once, 1 to 4,096, with the tenants of the opening; by default these alone.
+    /// How many tenants there may be at once, 1 to 65,536, with the tenants of the opening; by default these alone.
     ///
     /// Further tenants come by name, any text of 1 to 256 bytes. A new tenant gets a free slot, or the slot of the
     /// tenant that has been idle longest. Where every slot's tenant has a request that waits or runs, the call is
@@ -161,7 +160,7 @@ impl Builder {
         self
     }
 
-    /// The weight of tenants that come by name, 1 to 1,000; by default 1. A weight set later, by `weight`, is kept for
+    /// The weight of tenants that come by name, 1 to 100,000; by default 1. A weight set later, by `weight`, is kept for
     /// the tenant's return.
     ///
     /// ```
@@ -179,8 +178,8 @@ impl Builder {
         self
     }
 
-    /// One more kind of jobs, numbered from 0; by default there is one, `-`. At most 64, and 65,536 pairs of a tenant
-    /// and a kind. Costs are estimated for each tenant and kind.
+    /// One more kind of jobs, numbered from 0; by default there is one, `-`. At most 64, and 1,048,576 pairs of a
+    /// tenant and a kind. Costs are estimated for each tenant and kind.
     ///
     /// ```
     /// use twodfq::{KindId, Pool};

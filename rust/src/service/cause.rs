@@ -4,6 +4,7 @@ use std::fmt;
 use std::io;
 
 use super::ids::KindId;
+use crate::config::GREATEST_WEIGHT;
 use crate::{OpenFault, Refusal};
 
 /// Why a job or a change is refused. Nothing has changed then.
@@ -37,7 +38,7 @@ pub enum Cause {
     Kind(KindId),
     /// A declared cost that is not 1 to 1,000,000,000.
     Cost(u64),
-    /// A weight that is not 1 to 1,000.
+    /// A weight that is not 1 to 100,000.
     Weight(u32),
     /// A number of workers that is 0, or more than the pool may have.
     Workers(u32),
@@ -118,7 +119,7 @@ impl fmt::Display for Cause {
             Cause::Name => write!(f, "a name has 1 to 256 bytes"),
             Cause::Kind(KindId(kind)) => write!(f, "no kind has the number {kind}"),
             Cause::Cost(cost) => write!(f, "a declared cost of {cost} microseconds is out of its range"),
-            Cause::Weight(weight) => write!(f, "a weight of {weight}, and it may be 1 to 1000"),
+            Cause::Weight(weight) => write!(f, "a weight of {weight}, and it may be 1 to {GREATEST_WEIGHT}"),
             Cause::Workers(count) => write!(f, "{count} workers, and there may be 1 to as many as at the opening"),
             Cause::Late => write!(f, "the deadline has passed"),
             Cause::NoneFree => write!(f, "no permit is free"),

@@ -1,6 +1,7 @@
 //! The time that a job has used.
 use std::time::{Duration, Instant};
 
+use crate::config::GREATEST_COST;
 use crate::ffi;
 
 /// By which clock a job's cost is measured, from the moment at which its worker takes it: at least one microsecond, and
@@ -19,9 +20,6 @@ pub enum Measure {
     /// The processor time of the worker's thread, so that a job pays while it computes, and not while it sleeps.
     Processor,
 }
-
-/// The greatest cost that the scheduler takes, in microseconds.
-pub(crate) const GREATEST_COST: u64 = 1_000_000_000;
 
 /// A clock that began with its pool.
 #[derive(Clone, Copy, Debug)]

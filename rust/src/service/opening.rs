@@ -3,12 +3,13 @@ use std::mem;
 use std::sync::Arc;
 use std::time::Instant;
 
-use super::builder::{Builder, MOST_ENTRIES};
+use super::builder::Builder;
 use super::cause::BuildFault;
 use super::clock::{Clock, Measure};
 use super::rolling::Rolling;
 use super::shared::{Payload, Shared};
 use super::state::State;
+use crate::config::{MOST_ENTRIES, MOST_TENANTS};
 use crate::permits::Desk;
 use crate::pool::{Signals, Sleeping};
 use crate::{OpenFault, Permits, Pool};
@@ -18,9 +19,6 @@ const LEAST_ENTRIES: u32 = 16;
 
 /// How many entries a history has that is kept whole, by default: 48 megabytes of them.
 const WHOLE_ENTRIES: u32 = 1_000_000;
-
-/// How many tenants a scheduler has at most.
-const MOST_TENANTS: u32 = 4096;
 
 impl Builder {
     /// Fills in the settings that the caller left out.
@@ -116,9 +114,10 @@ impl Builder {
         workers: impl FnOnce(u32) -> P::Workers,
         signals: P::Signals,
     ) -> Result<Arc<Shared<P>>, BuildFault> {
-        let settings = Arc::new(self.settings);
-        let workers = workers(settings.most_workers);
-        let rolling = Rolling::open(settings, self.weights, self.workers).map_err(BuildFault::Scheduler)?;
+        let most_workers = self.settings.most_workers;
+        let rolling =
+            Rolling::open(Arc::new(self.settings), self.weights, self.workers).map_err(BuildFault::Scheduler)?;
+        let workers = workers(most_workers); // which are not too many, since the scheduler is open
         let clock = Clock { start: Instant::now(), measure: self.measure };
         Ok(Arc::new(Shared::new(State::new(rolling, workers, clock), self.refresh, signals)))
     }

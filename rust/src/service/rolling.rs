@@ -5,10 +5,11 @@ use std::sync::Arc;
 
 use super::requests::Submitted;
 use super::settings::{Settings, ONE_REQUEST_AND_CLOSE};
+use crate::config::MOST_WORKERS;
 use crate::{Foreseen, OpenFault, Refusal, Scheduler, Submit, Taken};
 
-/// The caller in entries that no worker made.
-const CALLER: u32 = 64;
+/// The caller in entries that no worker made: no worker has this number.
+const CALLER: u32 = MOST_WORKERS;
 
 /// A scheduler that was opened ahead, and the weights that it has.
 pub(crate) struct Spare {
@@ -25,14 +26,16 @@ pub(crate) struct History {
     pub(crate) weights: Vec<u32>,
     /// How many calls it has accepted.
     pub(crate) entries: u64,
+    /// The number of workers that it has learned.
+    workers: u32,
     waiting: u32,
     running: u32,
     closed: bool,
 }
 
 impl History {
-    fn new(number: u64, scheduler: Scheduler, weights: Vec<u32>) -> History {
-        History { number, scheduler, weights, entries: 0, waiting: 0, running: 0, closed: false }
+    fn new(number: u64, scheduler: Scheduler, weights: Vec<u32>, workers: u32) -> History {
+        History { number, scheduler, weights, entries: 0, workers, waiting: 0, running: 0, closed: false }
     }
 
     fn close(&mut self, moment: u64) {
@@ -103,7 +106,7 @@ impl Rolling {
             Some(spare) => spare.scheduler,
             None => self.settings.open(&self.weights)?,
         };
-        let mut next = History::new(self.opened, scheduler, self.weights.clone());
+        let mut next = History::new(self.opened, scheduler, self.weights.clone(), self.workers);
         if self.workers != self.settings.most_workers {
             let reply = next.scheduler.workers(CALLER, moment, self.workers);
             let _ = next.counted(reply); // an empty history has room for it
@@ -209,14 +212,17 @@ impl Rolling {
         None
     }
 
-    /// Whether a request waits in any scheduler.
-    pub(crate) fn has_waiting(&self) -> bool {
-        self.histories.iter().any(|history| history.waiting > 0)
+    /// How many workers may take from the oldest scheduler in which a request waits for this worker; none where there is
+    /// no such scheduler.
+    pub(crate) fn served(&self, worker: u32) -> Option<u32> {
+        let waiting = self.histories.iter().filter(|history| history.waiting > 0);
+        waiting.map(|history| history.workers.min(self.workers)).find(|workers| worker < *workers)
     }
 
     /// Whether a head is eligible for the worker in the scheduler that it would take from.
     pub(crate) fn is_eligible(&mut self, moment: u64, worker: u32) -> bool {
-        let oldest = self.histories.iter_mut().find(|history| history.waiting > 0);
+        let mut histories = self.histories.iter_mut();
+        let oldest = histories.find(|history| history.waiting > 0 && worker < history.workers);
         oldest.is_some_and(|history| {
             let foreseen = history.scheduler.foresee(moment, worker, 0);
             matches!(foreseen, Ok(Foreseen::Run { is_eligible: true, .. }))
@@ -264,7 +270,7 @@ impl Rolling {
         self.call(moment, |scheduler| scheduler.weight(CALLER, moment, tenant, weight))?;
         self.weights[tenant as usize] = weight;
         self.spare = None;
-        self.tell_older(|scheduler| scheduler.weight(CALLER, moment, tenant, weight));
+        self.tell_older(|history| history.scheduler.weight(CALLER, moment, tenant, weight));
         Ok(())
     }
 
@@ -272,14 +278,19 @@ impl Rolling {
     pub(crate) fn workers(&mut self, moment: u64, count: u32) -> Result<(), Refusal> {
         self.call(moment, |scheduler| scheduler.workers(CALLER, moment, count))?;
         self.workers = count;
-        self.tell_older(|scheduler| scheduler.workers(CALLER, moment, count));
+        self.newest().workers = count;
+        self.tell_older(|history| {
+            history.scheduler.workers(CALLER, moment, count)?;
+            history.workers = count;
+            Ok(())
+        });
         Ok(())
     }
 
-    fn tell_older(&mut self, call: impl Fn(&mut Scheduler) -> Result<(), Refusal>) {
+    fn tell_older(&mut self, call: impl Fn(&mut History) -> Result<(), Refusal>) {
         let older = self.histories.len() - 1;
         for history in &mut self.histories[..older] {
-            let reply = call(&mut history.scheduler);
+            let reply = call(history);
             let _ = history.counted(reply);
         }
     }

@@ -41,17 +41,18 @@ impl Settings {
         self.tenants.number(name).filter(|number| *number < self.named).map(TenantId::new)
     }
 
-    /// How many entries a history may have by the head of its journal.
+    /// How many entries a history may have by the head of its journal: as many as are judged, and four for each place of
+    /// a room for which these are too few.
     pub(crate) fn journal_entries(&self) -> u32 {
-        self.entries.min(self.judged)
+        self.entries.min(self.judged.max(4 * self.room))
     }
 
     /// How many entries a journal has at most. Up to here a history of `journal_entries` has room for any call, so that
     /// the first entries of a longer one are legal by that head.
     pub(crate) fn journal_room(&self) -> u64 {
         let needed = 2 * u64::from(self.room) + u64::from(self.most_workers) + ONE_REQUEST_AND_CLOSE;
-        let is_long = self.entries > self.judged;
-        u64::from(self.journal_entries()) - if is_long { needed } else { 0 }
+        let entries = self.journal_entries();
+        u64::from(entries) - if self.entries > entries { needed } else { 0 }
     }
 
     pub(crate) fn open(&self, weights: &[u32]) -> Result<Scheduler, OpenFault> {

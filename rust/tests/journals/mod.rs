@@ -26,12 +26,20 @@ impl Text {
     }
 }
 
-/// The journal is legal to its last entry by the proved program, where `TWODFQ_PROGRAM` names the program.
-pub fn judge(journal: &str) {
-    let Some(program) = env::var_os("TWODFQ_PROGRAM") else { return };
-    let mut child = Command::new(program).arg("check").stdin(Stdio::piped()).stdout(Stdio::piped()).spawn().unwrap();
+/// The verdict and the message of the proved program on a journal, where `TWODFQ_PROGRAM` names the program.
+pub fn check(journal: &str) -> Option<[String; 2]> {
+    let mut command = Command::new(env::var_os("TWODFQ_PROGRAM")?);
+    let command = command.arg("check").stdin(Stdio::piped()).stdout(Stdio::piped()).stderr(Stdio::piped());
+    let mut child = command.spawn().unwrap();
     child.stdin.take().unwrap().write_all(journal.as_bytes()).unwrap();
-    let verdict = String::from_utf8(child.wait_with_output().unwrap().stdout).unwrap();
+    let output = child.wait_with_output().unwrap();
+    Some([output.stdout, output.stderr].map(|text| String::from_utf8(text).unwrap()))
+}
+
+/// The journal is legal to its last entry, where the program judges it.
+#[allow(dead_code, reason = "not all tests have legal journals alone")]
+pub fn judge(journal: &str) {
+    let Some([verdict, _]) = check(journal) else { return };
     let is_head = |line: &&str| ["journal ", "config ", "tenant ", "kind "].iter().any(|word| line.starts_with(word));
     let entries = journal.lines().count() - journal.lines().filter(is_head).count();
     assert_eq!(verdict, format!("legal entries {entries}\n"));
