@@ -22,7 +22,7 @@ const (
 	ErrTenantFull                     // the tenant's part of the room is full; other tenants may still submit
 	ErrNoneFree                       // a TryAcquire found no free worker
 	ErrNoMemory                       // there is no memory for the next scheduler
-	ErrWeight                         // a weight out of its range, 1 to 1,000
+	ErrWeight                         // a weight out of its range, 1 to 100,000
 	ErrWorkers                        // a number of workers out of its range, 1 to Options.MostWorkers
 	causes                            // one more than the last
 )
@@ -41,7 +41,7 @@ var causeTexts = [causes]struct{ label, text string }{
 	ErrTenantFull:    {"tenant_full", "the tenant's part of the room is full"},
 	ErrNoneFree:      {"none_free", "no worker is free for it now"},
 	ErrNoMemory:      {"no_memory", "there is no memory for the next scheduler"},
-	ErrWeight:        {"weight", "a weight is 1 to 1,000"},
+	ErrWeight:        {"weight", "a weight is 1 to 100,000"},
 	ErrWorkers:       {"workers", "the workers are 1 to Options.MostWorkers"},
 }
 

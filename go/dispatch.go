@@ -1,28 +1,6 @@
 package twodfq
 
-import (
-	"math/bits"
-	"sort"
-	"time"
-)
-
-// A set of workers, one bit for each.
-type workerSet uint64
-
-func workersBelow(count int) workerSet { return 1<<count - 1 }
-
-func (w workerSet) len() int        { return bits.OnesCount64(uint64(w)) }
-func (w workerSet) lowest() uint32  { return uint32(bits.TrailingZeros64(uint64(w))) }
-func (w workerSet) highest() uint32 { return uint32(bits.Len64(uint64(w)) - 1) }
-
-// The members of the set, the lowest first.
-func (w workerSet) members() []uint32 {
-	members := make([]uint32, 0, w.len())
-	for ; w != 0; w &= w - 1 {
-		members = append(members, w.lowest())
-	}
-	return members
-}
+import "time"
 
 // Dispatches waiting requests to free workers, as long as there are both and the workers are not patient. Each change
 // of the waiting or running requests is followed by a call of it.
@@ -47,7 +25,7 @@ func (p *Pool) dispatch(now time.Duration) {
 // The oldest scheduler with a waiting request and a free worker.
 func (p *Pool) nextHistory() *history {
 	for _, history := range p.rolling.histories {
-		if history.waiting > 0 && p.freeFor(history) != 0 {
+		if history.waiting > 0 && !p.freeFor(history).isEmpty() {
 			return history
 		}
 	}
@@ -55,8 +33,11 @@ func (p *Pool) nextHistory() *history {
 }
 
 // The free workers that may take from the scheduler.
-func (p *Pool) freeFor(h *history) workerSet {
-	return p.free & workersBelow(p.rolling.workers) & workersBelow(h.workers)
+func (p *Pool) freeFor(h *history) freeWorkers {
+	if h.workers < p.rolling.workers {
+		return freeWorkers{p.free, h.workers}
+	}
+	return freeWorkers{p.free, p.rolling.workers}
 }
 
 // Chooses the worker of the next dispatch, or how long to wait for a better request. The lowest worker with an eligible
@@ -64,7 +45,7 @@ func (p *Pool) freeFor(h *history) workerSet {
 // eligible for the highest worker either, that worker takes a request before its time, unless it is patient.
 func (p *Pool) choose(h *history, now time.Duration) (worker uint32, longest time.Duration) {
 	free := p.freeFor(h)
-	low, high := free.lowest(), free.highest()
+	low, high := uint32(free.lowest()), uint32(free.highest())
 	gains := p.mayGain(h)
 	if low == high && !gains {
 		return low, 0
@@ -75,7 +56,7 @@ func (p *Pool) choose(h *history, now time.Duration) (worker uint32, longest tim
 	}
 	if low != high {
 		if next = h.foresee(now, high); next.Eligible {
-			return h.lowestEligible(free, now), 0
+			return h.lowestEligible(free, low+1, high, now), 0
 		}
 	}
 	if !gains {
@@ -83,7 +64,7 @@ func (p *Pool) choose(h *history, now time.Duration) (worker uint32, longest tim
 	}
 	longest = p.patience.allows(free, h.waiting, next.Estimate, now)
 	if longest <= 0 {
-		p.patience.takesEarly(free)
+		p.patience.takesEarly(high)
 	}
 	return high, longest
 }
@@ -102,11 +83,19 @@ func (h *history) foresee(now time.Duration, worker uint32) Foreseen {
 	return foreseen
 }
 
-// The lowest of these workers with an eligible request. The highest has one, and a request that is eligible for a
-// worker is eligible for all above it.
-func (h *history) lowestEligible(free workerSet, now time.Duration) uint32 {
-	workers := free.members()
-	return workers[sort.Search(len(workers)-1, func(i int) bool { return h.foresee(now, workers[i]).Eligible })]
+// The lowest of the free workers from least on with an eligible request, as the free worker found has one. A request that
+// is eligible for a worker is eligible for all above it.
+func (h *history) lowestEligible(free freeWorkers, least, found uint32, now time.Duration) uint32 {
+	for least < found {
+		middle := least + (found-least)/2
+		worker := freeWorkers{free.set, int(middle) + 1}.highest()
+		if worker >= int(least) && h.foresee(now, uint32(worker)).Eligible {
+			found = uint32(worker)
+		} else {
+			least = middle + 1
+		}
+	}
+	return found
 }
 
 // The worker takes a request, which begins.
@@ -123,9 +112,11 @@ func (p *Pool) take(h *history, worker uint32, now time.Duration) {
 	p.leaveRoom(r)
 	r.slot.running++
 	p.running++
-	p.free &^= 1 << worker
+	p.free.remove(worker)
+	p.patience.freed.leave(worker)
 	permit := &Permit{pool: p, request: r, worker: worker, begun: now, reported: now}
 	p.permits[worker] = permit
+	p.reporting.join(worker)
 	r.slot.counts.Waited.add(r.waited(now))
 	p.traceBegun(r, now)
 	p.resolve(r, permit, nil)

@@ -22,16 +22,3 @@ func TestWhichWorkerTakes(t *testing.T) {
 	}
 	pool.Close()
 }
-
-func TestWorkerSets(t *testing.T) {
-	for _, count := range []int{1, 5, 64} {
-		set := workersBelow(count)
-		if set.len() != count || set.lowest() != 0 || set.highest() != uint32(count-1) {
-			t.Errorf("below %d: %b", count, set)
-		}
-	}
-	members := workerSet(0b101001).members()
-	if len(members) != 3 || members[0] != 0 || members[1] != 3 || members[2] != 5 {
-		t.Errorf("%v", members)
-	}
-}

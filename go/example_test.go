@@ -191,9 +191,9 @@ func ExampleOptions() {
 
 // The error names the field that is out of its range, and the range.
 func ExampleNewPool() {
-	_, err := twodfq.NewPool(twodfq.Options{Workers: 100, MostTenants: 10})
+	_, err := twodfq.NewPool(twodfq.Options{Workers: 5000, MostTenants: 10})
 	fmt.Println(err)
-	// Output: twodfq: no pool has these options: MostWorkers is 100, and may be 1 to 64
+	// Output: twodfq: no pool has these options: MostWorkers is 5000, and may be 1 to 4096
 }
 
 func ExampleStatus_WritePrometheus() {
@@ -238,10 +238,10 @@ func ExamplePool_SetWeight() {
 		log.Fatal(err)
 	}
 	fmt.Println(pool.Status().Tenants[0].Weight)
-	fmt.Println(pool.SetWeight("acme", 1001))
+	fmt.Println(pool.SetWeight("acme", 100_001))
 	// Output:
 	// 5
-	// twodfq: a weight is 1 to 1,000
+	// twodfq: a weight is 1 to 100,000
 }
 
 // The number of workers follows the load, up to MostWorkers.

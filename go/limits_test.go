@@ -171,7 +171,7 @@ func TestWantOfMemory(t *testing.T) {
 	wants(t, err, nil)
 	for step := uint64(1); pool.rolling.newest().scheduler.Report(0, step, 0, step) == nil; step++ { // until it is full
 	}
-	pool.rolling.config.Workers = 65 // no scheduler has as many, so that none opens
+	pool.rolling.config.Workers = workerLimit + 1 // no scheduler has as many, so that none opens
 	_, err = pool.Acquire(background, "2", "")
 	wants(t, err, ErrNoMemory)
 	wants(t, pool.SetWeight("1", 2), ErrNoMemory)

@@ -10,7 +10,7 @@ import (
 // Tenant is a tenant that a pool knows from its opening on.
 type Tenant struct {
 	Name   string // 1 to 256 bytes of UTF-8
-	Weight int    // 1 to 1,000; 0: DefaultWeight
+	Weight int    // 1 to 100,000; 0: DefaultWeight
 }
 
 // Kind is a kind of requests. Costs are estimated for each tenant and kind.
@@ -22,20 +22,20 @@ type Kind struct {
 // Options is the configuration of a pool. The zero value of a field stands for the default named at the field; only
 // tenants must be given, by Tenants, MostTenants or both.
 type Options struct {
-	Workers     int // the number of requests that run at once: 1 to 64; 0: 4
-	MostWorkers int // the limit of SetWorkers: Workers to 64; 0: Workers
+	Workers     int // the number of requests that run at once: 1 to 4,096; 0: 4
+	MostWorkers int // the limit of SetWorkers: Workers to 4,096; 0: Workers
 
 	// Tenants keep their slots for good.
 	Tenants []Tenant
-	// MostTenants is the number of slots for tenants: at most 4,096, and at most 65,536 pairs of a slot and a kind. A
-	// tenant without a slot takes an unused one, or the slot of the tenant that has been without requests for longest.
-	// It inherits the cost estimates of that slot, and starts near virtual time. 0: only Tenants exist, and other names
-	// are refused.
+	// MostTenants is the number of slots for tenants: at most 65,536, and at most 1,048,576 pairs of a slot and a kind.
+	// A tenant without a slot takes an unused one, or the slot of the tenant that has been without requests for
+	// longest. It inherits the cost estimates of that slot, and starts near virtual time. 0: only Tenants exist, and
+	// other names are refused.
 	MostTenants   int
-	DefaultWeight int    // of tenants without a weight of their own: 1 to 1,000; 0: 1
+	DefaultWeight int    // of tenants without a weight of their own: 1 to 100,000; 0: 1
 	Kinds         []Kind // at most 64; none: one kind with the empty name
 
-	Room int // the number of requests that may wait at once: 1 to 262,144; 0: 10,000
+	Room int // the number of requests that may wait at once: 1 to 1,048,576; 0: 10,000
 	// RoomPerTenant is the number of requests of one tenant that may wait. 0: each slot has Room / (2 * MostTenants)
 	// places of its own, and at least one if Room suffices for that. The other places are shared: of these a tenant may
 	// have as many as it leaves free.
@@ -59,17 +59,20 @@ type Options struct {
 	Trace *Trace // functions to call at the events of requests; nil: none
 }
 
-// The greatest number of workers of a scheduler.
-const workerLimit = 64
+// The greatest numbers of a scheduler.
+const (
+	workerLimit    = 4096
+	mostTenants    = 65_536
+	greatestWeight = 100_000
+	mostKinds      = 64
+	mostPairs      = 1_048_576 // of a tenant and a kind
+	mostRequests   = 1_048_576 // that wait at once
+	mostEntries    = 4_000_000_000
+	greatestCost   = 1_000_000_000 * time.Microsecond
+)
 
 // The least number of entries with surely enough room for the opening and one request.
 const leastEntries = 16
-
-// The greatest number of entries of a scheduler.
-const mostEntries = 4_000_000_000
-
-// The greatest cost of a request.
-const greatestCost = 1_000_000_000 * time.Microsecond
 
 // Fills in the defaults, in memory of its own, and reports a field out of its range.
 func (o Options) complete() (Options, error) {
@@ -112,16 +115,16 @@ type field struct {
 func (o *Options) check() error {
 	fields := []field{
 		{"MostWorkers", o.MostWorkers, 1, workerLimit}, {"Workers", o.Workers, 1, o.MostWorkers},
-		{"MostTenants", o.MostTenants, 1, 4096}, {"len(Tenants)", len(o.Tenants), 0, o.MostTenants},
-		{"len(Kinds)", len(o.Kinds), 1, 64}, {"MostTenants * len(Kinds)", o.MostTenants * len(o.Kinds), 1, 65_536},
-		{"DefaultWeight", o.DefaultWeight, 1, 1000}, {"Room", o.Room, 1, 262_144},
+		{"MostTenants", o.MostTenants, 1, mostTenants}, {"len(Tenants)", len(o.Tenants), 0, o.MostTenants},
+		{"len(Kinds)", len(o.Kinds), 1, mostKinds}, {"MostTenants * len(Kinds)", o.MostTenants * len(o.Kinds), 1, mostPairs},
+		{"DefaultWeight", o.DefaultWeight, 1, greatestWeight}, {"Room", o.Room, 1, mostRequests},
 		{"RoomPerTenant", o.RoomPerTenant, 0, math.MaxInt}, {"MostRunning", o.MostRunning, 0, math.MaxInt},
 		{"Initial", int(o.Initial), int(time.Microsecond), int(greatestCost)},
 		{"Entries", int(o.Entries), leastEntries, mostEntries},
 		{"Policy", int(o.Policy), 0, int(TwoDFQPlus)}, {"Estimate", int(o.Estimate), 0, int(Pessimistic)},
 	}
 	for i, tenant := range o.Tenants {
-		fields = append(fields, field{fmt.Sprintf("Tenants[%d].Weight", i), tenant.Weight, 1, 1000})
+		fields = append(fields, field{fmt.Sprintf("Tenants[%d].Weight", i), tenant.Weight, 1, greatestWeight})
 	}
 	for i, kind := range o.Kinds {
 		fields = append(fields, field{fmt.Sprintf("Kinds[%d].MostRunning", i), kind.MostRunning, 0, math.MaxInt})

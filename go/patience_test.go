@@ -3,6 +3,7 @@ package twodfq
 import (
 	"context"
 	"errors"
+	"fmt"
 	"math"
 	"sync"
 	"sync/atomic"
@@ -82,6 +83,7 @@ func (p *patientPool) chosen(since2, since3, now time.Duration) (worker uint32, 
 	p.lock.Lock()
 	defer p.lock.Unlock()
 	p.patience.since[2], p.patience.since[3] = since2, since3
+	p.patience.lineUp(p.free, 4)
 	return p.choose(p.rolling.newest(), now)
 }
 
@@ -249,7 +251,7 @@ func TestAllWaitsHaveTheirBound(t *testing.T) {
 		t.Errorf("%v were waited in %v", waited, time.Since(before))
 	}
 	p.end(t)
-	saved := newPatience(part, 4)
+	saved := newPatience(part, 4, 4)
 	if saved.spare != bound || saved.most != bound {
 		t.Errorf("%v of %v are saved up", saved.spare, saved.most)
 	}
@@ -260,7 +262,7 @@ func TestAllWaitsHaveTheirBound(t *testing.T) {
 	if saved.earn(time.Hour); saved.spare != bound {
 		t.Errorf("%v are saved up, which is too much", saved.spare)
 	}
-	if saved.setWorkers(1); saved.spare != bound/4 {
+	if saved.setWorkers(1, newWorkerSet(4)); saved.spare != bound/4 {
 		t.Errorf("%v are saved up for one worker", saved.spare)
 	}
 }
@@ -271,17 +273,24 @@ func TestWaitersAreWhoLoseTime(t *testing.T) {
 		free     workerSet
 		requests int
 		wanted   workerSet
-	}{{0b1100, 1, 0b1000}, {0b1100, 2, 0b1100}, {0b1100, 7, 0b1100}, {0b101011, 3, 0b101010}} {
-		if waiting := waiters(example.free, example.requests); waiting != example.wanted {
-			t.Errorf("%b of %b in place of %b", waiting, example.free, example.wanted)
+	}{{setOf(2, 3), 1, setOf(3)}, {setOf(2, 3), 2, setOf(2, 3)}, {setOf(2, 3), 7, setOf(2, 3)},
+		{setOf(0, 1, 3, 5), 3, setOf(1, 3, 5)}} {
+		p := newPatience(1, 6, 200)
+		p.begin(freeWorkers{example.free, 6}, example.requests, time.Hour, func() {})
+		if fmt.Sprint(p.waiting) != fmt.Sprint(example.wanted) || p.waits != uint64(p.waiters) {
+			t.Errorf("%b of %b in place of %b, %d waits", p.waiting, example.free, example.wanted, p.waits)
+		}
+		p.rest()
+		if fmt.Sprint(p.waiting) != fmt.Sprint(setOf()) || p.waiters != 0 {
+			t.Errorf("%b waits on", p.waiting)
 		}
 	}
-	p := newPatience(1, 4)
-	allows := func(requests int) time.Duration { return p.allows(0b1100, requests, 1_000_000_000, 0) }
+	p, free := newPatience(1, 4, 4), freeWorkers{setOf(2, 3), 4}
+	allows := func(requests int) time.Duration { return p.allows(free, requests, 1_000_000_000, 0) }
 	if one, two := allows(1), allows(2); one != 4*time.Second-oversleep || two != 2*time.Second-oversleep {
 		t.Errorf("%v and %v", one, two)
 	}
-	p.waiting = 0b1100
+	p.begin(free, 2, time.Hour, func() {})
 	p.settle(time.Second)
 	if p.waited != 2*time.Second || p.spare != 2*time.Second {
 		t.Errorf("%v were waited, and %v are left", p.waited, p.spare)

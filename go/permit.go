@@ -8,14 +8,13 @@ import (
 // Permit allows its holder to run a request. It occupies a worker of its pool until it is released. Its methods may be
 // called from any goroutine.
 type Permit struct {
-	pool          *Pool
-	request       *request
-	worker        uint32
-	begun         time.Duration
-	reported      time.Duration // the moment of the last report
-	used          uint64        // the reported cost, in microseconds
-	holderReports bool          // the holder reports, and not the pool
-	isOver        bool
+	pool     *Pool
+	request  *request
+	worker   uint32
+	begun    time.Duration
+	reported time.Duration // the moment of the begin, or of the last report by the pool
+	used     uint64        // the reported cost, in microseconds
+	isOver   bool
 }
 
 // Acquire waits for the turn of a request of this tenant and kind, and returns a permit to run it. If the context ends
@@ -60,7 +59,7 @@ func (p *Pool) tryAcquire(origin origin, options []RequestOption) (*Permit, erro
 	defer p.unlock()
 	now := p.now()
 	err := p.identify(r, origin, now)
-	if err == nil && (p.free&workersBelow(p.rolling.workers) == 0 || !p.mayGo(r.slot, r.kind)) {
+	if err == nil && (freeWorkers{p.free, p.rolling.workers}.isEmpty() || !p.mayGo(r.slot, r.kind)) {
 		err = ErrNoneFree
 	}
 	if err == nil {
@@ -117,7 +116,7 @@ func (t *Permit) Used(cost time.Duration) {
 		return
 	}
 	now := t.pool.now()
-	t.holderReports = true
+	t.pool.reporting.leave(t.worker)
 	t.report(now, cost)
 	t.pool.dispatch(now)
 }
@@ -170,8 +169,9 @@ func (p *Pool) endPermit(t *Permit, now, cost time.Duration, panicked bool) {
 // Frees the worker of the permit.
 func (p *Pool) vacate(t *Permit, now time.Duration) {
 	p.permits[t.worker] = nil
-	p.free |= 1 << t.worker
-	p.patience.since[t.worker] = now
+	p.reporting.leave(t.worker)
+	p.free.add(t.worker)
+	p.patience.becomesFree(t.worker, now, p.rolling.workers)
 	p.running--
 	t.request.slot.running--
 }
@@ -188,20 +188,14 @@ func (t *Permit) report(now, cost time.Duration) {
 
 // Reports the time of running of each permit that was held for Refresh since its last report.
 func (p *Pool) reportHeld(now time.Duration) {
-	if p.options.Refresh < 0 || now < p.refresh {
-		return
-	}
-	p.refresh = now + p.options.Refresh
-	for _, permit := range p.permits {
-		if permit == nil || permit.holderReports {
-			continue
+	for p.options.Refresh > 0 {
+		worker, ok := p.reporting.first()
+		if !ok || now-p.permits[worker].reported < p.options.Refresh {
+			return
 		}
-		if now-permit.reported >= p.options.Refresh {
-			permit.reported = now
-			permit.report(now, now-permit.begun)
-		}
-		if next := permit.reported + p.options.Refresh; next < p.refresh {
-			p.refresh = next
-		}
+		permit := p.permits[worker]
+		permit.reported = now
+		permit.report(now, now-permit.begun)
+		p.reporting.join(worker)
 	}
 }

@@ -28,14 +28,14 @@ type Pool struct {
 	room       room
 	patience   patience
 	deadlines  deadlines
-	requests   map[uint64]*request  // the waiting requests in the schedulers, by label
-	next       uint64               // the label of the next request
-	free       workerSet            // the workers that run nothing
-	permits    [workerLimit]*Permit // the held permits by worker
+	requests   map[uint64]*request // the waiting requests in the schedulers, by label
+	next       uint64              // the label of the next request
+	free       workerSet           // the workers that run nothing
+	permits    []*Permit           // the held permits by worker
+	reporting  line                // the workers whose permits the pool reports, the one that has reported last behind
 	running    int
-	refresh    time.Duration // the next moment at which a permit is due to report
-	unfinished int           // the number of accepted requests and jobs that have not ended
-	tracing    int           // the number of goroutines that call functions of Trace
+	unfinished int // the number of accepted requests and jobs that have not ended
+	tracing    int // the number of goroutines that call functions of Trace
 	closed     bool
 	drained    chan struct{} // closed at the end of the pool
 	starts     []start       // the dispatched jobs, to start without the lock
@@ -50,8 +50,11 @@ func NewPool(options Options) (*Pool, error) {
 	}
 	p := &Pool{options: options, begun: time.Now(), kinds: make(map[string]uint32), tenants: newTenants(&options),
 		room: newRoom(options.Room, options.MostTenants, options.RoomPerTenant), requests: make(map[uint64]*request),
-		patience: newPatience(options.Patience, options.Workers), free: workersBelow(options.MostWorkers),
-		drained: make(chan struct{})}
+		patience: newPatience(options.Patience, options.Workers, options.MostWorkers), free: newWorkerSet(options.MostWorkers),
+		permits: make([]*Permit, options.MostWorkers), reporting: newLine(options.MostWorkers), drained: make(chan struct{})}
+	for worker := range p.permits {
+		p.free.add(uint32(worker))
+	}
 	for number, kind := range options.Kinds {
 		p.kinds[kind.Name] = uint32(number)
 	}
@@ -158,11 +161,11 @@ func (p *Pool) closesIfIdle(s *slot) {
 	}
 }
 
-// SetWeight sets the weight of a tenant, 1 to 1,000. The name of a tenant without a slot keeps it for the time when it
+// SetWeight sets the weight of a tenant, 1 to 100,000. The name of a tenant without a slot keeps it for the time when it
 // comes. The refusals are ErrWeight, ErrName, ErrUnknownTenant, ErrClosed and ErrNoMemory. An older scheduler whose
 // history is full keeps its weights until it is drained.
 func (p *Pool) SetWeight(tenant string, weight int) error {
-	if weight < 1 || weight > 1000 {
+	if weight < 1 || weight > greatestWeight {
 		return ErrWeight
 	}
 	p.lock.Lock()
@@ -209,7 +212,7 @@ func (p *Pool) SetWorkers(count int) error {
 	if err := p.rolling.setWorkers(now, count); err != nil {
 		return err
 	}
-	p.patience.setWorkers(count)
+	p.patience.setWorkers(count, p.free)
 	p.dispatch(now)
 	return nil
 }

@@ -26,7 +26,7 @@ func newRolling(o *Options, weights []uint32) (*rolling, error) {
 	return r, r.open(0)
 }
 
-// The caller in entries that no worker made.
+// The caller in entries that no worker made: no worker has this number.
 const caller = workerLimit
 
 func (r *rolling) newest() *history { return r.histories[len(r.histories)-1] }

@@ -46,11 +46,11 @@ func (e Estimator) number() C.uint32_t {
 // Config is the configuration of a scheduler. Entries is 4 to 4,194,304, and up to 4,000,000,000 where Keep is not 0.
 // An Entries of 0 stands for 1,000,000, and for 4,000,000,000 where Keep is not 0.
 type Config struct {
-	Workers  uint32   // 1 to 64
-	Weights  []uint32 // one a tenant, each 1 to 1,000; 1 to 4,096 tenants
-	Kinds    uint32   // 1 to 64; tenants times kinds is at most 65,536
+	Workers  uint32   // 1 to 4,096
+	Weights  []uint32 // one a tenant, each 1 to 100,000; 1 to 65,536 tenants
+	Kinds    uint32   // 1 to 64; tenants times kinds is at most 1,048,576
 	Entries  uint32   // how many entries the history may have
-	Requests uint32   // how many requests may wait at once: 1 to 262,144
+	Requests uint32   // how many requests may wait at once: 1 to 1,048,576
 	Policy   Policy
 	Estimate Estimator
 	Initial  uint64 // the estimate before any completion: 1 to 1,000,000,000
@@ -69,7 +69,7 @@ func (c Config) entries() uint32 {
 	case c.Entries != 0:
 		return c.Entries
 	case c.Keep != 0:
-		return 4_000_000_000
+		return mostEntries
 	default:
 		return 1_000_000
 	}
@@ -219,7 +219,7 @@ func (s *Scheduler) Close(who uint32, moment uint64) error {
 	return refusal(C.twodfq_close(&s.handle, C.uint32_t(who), C.uint64_t(moment)))
 }
 
-// Weight gives the tenant this weight from now on, 1 to 1,000.
+// Weight gives the tenant this weight from now on, 1 to 100,000.
 func (s *Scheduler) Weight(who uint32, moment uint64, tenant, weight uint32) error {
 	return refusal(C.twodfq_weight(&s.handle, C.uint32_t(who), C.uint64_t(moment), C.uint32_t(tenant), C.uint32_t(weight)))
 }

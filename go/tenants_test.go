@@ -112,7 +112,7 @@ func TestTenantIDs(t *testing.T) {
 func TestWeightsOfNames(t *testing.T) {
 	pool := open(t, Options{Workers: 1, MostTenants: 2, Room: 1000, RoomPerTenant: 500, Estimate: Declared, Refresh: -1})
 	wants(t, pool.SetWeight("acme", 5), nil)
-	for _, weight := range []int{0, 1001, -1} {
+	for _, weight := range []int{0, greatestWeight + 1, -1} {
 		wants(t, pool.SetWeight("acme", weight), ErrWeight)
 	}
 	wants(t, pool.SetWeight("", 5), ErrName)

@@ -25,8 +25,8 @@ extern "C" {
 
 /* The version of this header. Below 1.0 another minor version may change any name, number or struct. */
 #define TWODFQ_VERSION_MAJOR 0
-#define TWODFQ_VERSION_MINOR 15
-#define TWODFQ_VERSION "0.15"
+#define TWODFQ_VERSION_MINOR 16
+#define TWODFQ_VERSION "0.16"
 
 /* The version of the library that the program runs with, written as TWODFQ_VERSION is. */
 const char *twodfq_version(void);
@@ -55,10 +55,10 @@ enum {
 };
 
 typedef struct {
-    uint32_t workers;  /* 1 to 64 */
-    uint32_t kinds;    /* 1 to 64; tenants times kinds is at most 65,536 */
+    uint32_t workers;  /* 1 to 4,096 */
+    uint32_t kinds;    /* 1 to 64; tenants times kinds is at most 1,048,576 */
     uint32_t entries;  /* how many entries the history may have: 4 to 4,194,304, or 4,000,000,000 where keep is not 0 */
-    uint32_t requests; /* how many requests may wait at once: 1 to 262,144 */
+    uint32_t requests; /* how many requests may wait at once: 1 to 1,048,576 */
     uint32_t policy;   /* TWODFQ_WFQ to TWODFQ_2DFQ_PLUS */
     uint32_t estimate; /* TWODFQ_DECLARED to TWODFQ_PESSIMISTIC */
     uint64_t initial;  /* the estimate before any completion: 1 to 1,000,000,000 */
@@ -73,8 +73,8 @@ enum {
     TWODFQ_OPEN_ESTIMATE,  /* no estimator has the number */
     TWODFQ_OPEN_NO_MEMORY,
     TWODFQ_OPEN_WORKERS = 16,
-    TWODFQ_OPEN_TENANTS,   /* 1 to 4,096 */
-    TWODFQ_OPEN_WEIGHT,    /* each 1 to 1,000 */
+    TWODFQ_OPEN_TENANTS,   /* 1 to 65,536 */
+    TWODFQ_OPEN_WEIGHT,    /* each 1 to 100,000 */
     TWODFQ_OPEN_KINDS,
     TWODFQ_OPEN_PAIRS,     /* too many tenants times kinds */
     TWODFQ_OPEN_ENTRIES,
@@ -109,7 +109,7 @@ enum {
     TWODFQ_REFUSED_BUSY,        /* the worker runs request */
     TWODFQ_REFUSED_NOT_RUNNING, /* the worker runs nothing */
     TWODFQ_REFUSED_FALLING,     /* less than the greatest use reported; first: that use, second: the number given */
-    TWODFQ_REFUSED_WEIGHT,      /* not 1 to 1,000; first: the weight given */
+    TWODFQ_REFUSED_WEIGHT,      /* not 1 to 100,000; first: the weight given */
     TWODFQ_REFUSED_WORKERS,     /* 0, or more than at the opening; first: the number given */
     TWODFQ_REFUSED_NOT_WAITING, /* request was never submitted, or is taken or withdrawn */
     TWODFQ_NO_SCHEDULER = 255
