@@ -1,14 +1,18 @@
 """Tables of names, counts, times, ratios and parts, for the tools beside this file: as text for people, and as CSV and
 JSON for programs."""
 
+import argparse
 import csv
+import decimal
 import io
 import json
+import re
 
 from tool import Fault, within
 
 FORMATS = ("text", "csv", "json")
 UNITS = {"us": 1, "ms": 1_000, "s": 1_000_000}
+MOMENT, GREATEST_MOMENT = re.compile(r"([0-9]+(?:\.[0-9]+)?)(us|ms|s)?"), 10**15
 
 
 def digits(value):
@@ -28,6 +32,15 @@ def human(time):
 def in_unit(time, unit):
     """Microseconds as a number of a unit, exactly."""
     return round(time) if unit == "us" else round(time) / UNITS[unit]
+
+
+def moment(word):
+    """A moment in microseconds, with its unit or without."""
+    found = MOMENT.fullmatch(word)
+    time = round(decimal.Decimal(found[1]) * UNITS[found[2] or "us"]) if found else GREATEST_MOMENT + 1
+    if time > GREATEST_MOMENT:
+        raise argparse.ArgumentTypeError(f"{word!r} is not a moment, as 2.5s, 2500ms or 2500000")
+    return time
 
 
 class Column:
