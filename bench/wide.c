@@ -85,19 +85,26 @@ static void submit(twodfq *scheduler, uint64_t moment, uint32_t tenant, uint64_t
     want(twodfq_submit(scheduler, 0, moment, tenant, 0, cost, tenant).kind == TWODFQ_REQUEST, "a submit");
 }
 
-static twodfq opened(uint32_t workers, uint32_t tenants, cost_of cost) {
+// a scheduler of 2dfq policies that keeps its last entries alone
+static twodfq opened_by(uint32_t policy, uint32_t estimate, uint32_t workers, uint32_t tenants, uint32_t requests) {
     twodfq_opening opening = {
         .workers = workers,
         .kinds = 1,
-        .entries = 4 * (tenants + workers + CYCLES),
-        .requests = tenants + workers + 1,
-        .policy = TWODFQ_2DFQ_PLUS,
-        .estimate = TWODFQ_RECENT,
+        .entries = 16 * requests + 4 * CYCLES,
+        .requests = requests,
+        .policy = policy,
+        .estimate = estimate,
         .initial = 1000,
         .keep = 1024,
     };
     twodfq scheduler = TWODFQ_NONE;
     want(twodfq_open(&scheduler, &opening, weights, tenants) == TWODFQ_OPENED, "no scheduler was opened");
+    return scheduler;
+}
+
+// one whose tenants have a first request each
+static twodfq opened(uint32_t workers, uint32_t tenants, cost_of cost) {
+    twodfq scheduler = opened_by(TWODFQ_2DFQ_PLUS, TWODFQ_RECENT, workers, tenants, tenants + workers + 1);
     for (uint32_t tenant = 0; tenant < tenants; tenant++) {
         firsts[tenant] = cost(tenant);
         submit(&scheduler, 0, tenant, firsts[tenant]);
@@ -200,18 +207,7 @@ static void time_cycles(const char *costs, uint32_t workers, uint32_t tenants, c
 // times as long as the others: it may become eligible first, so its block is looked into. The last worker takes.
 static void time_worst(uint32_t workers, uint32_t tenants) {
     enum { TAKES = 2000 };
-    twodfq_opening opening = {
-        .workers = workers,
-        .kinds = 1,
-        .entries = 16 * tenants + 64 * TAKES,
-        .requests = 2 * tenants,
-        .policy = TWODFQ_2DFQ,
-        .estimate = TWODFQ_DECLARED,
-        .initial = 1000,
-        .keep = 1024,
-    };
-    twodfq scheduler = TWODFQ_NONE;
-    want(twodfq_open(&scheduler, &opening, weights, tenants) == TWODFQ_OPENED, "no scheduler was opened");
+    twodfq scheduler = opened_by(TWODFQ_2DFQ, TWODFQ_DECLARED, workers, tenants, 2 * tenants);
     for (uint32_t tenant = 0; tenant < tenants; tenant++) twodfq_submit(&scheduler, 0, 0, tenant, 0, 1000000, tenant);
     for (uint32_t tenant = 0; tenant < tenants; tenant++) { // each is served once, at no time
         twodfq_take(&scheduler, 0, 0, 0);
