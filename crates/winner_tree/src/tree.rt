@@ -9,7 +9,7 @@ use std::alloc::{AllocError, Global};
 use std::marker::Model;
 
 /// The most leaves of a tree.
-pub const MOST_LEAVES: u32 = 65536;
+pub const MOST_LEAVES: u32 = 1048576;
 
 /// Leaves, numbered from 0, of which each has a key or none. Contracts see the keys as a list by leaf.
 #[derive(Drop)]
@@ -32,7 +32,7 @@ impl Model for Tree {
 }
 
 impl Tree {
-    /// A tree of 1 to 65,536 leaves of which none has a key.
+    /// A tree of 1 to 1,048,576 leaves of which none has a key.
     pub fn open(alloc: Global, leaves: u32) -> Result<Tree, AllocError>
         requires at_least_one { 1 ≤ leaves }
         requires in_range { leaves ≤ MOST_LEAVES }

@@ -1,0 +1,4 @@
+pub mod Table
+pub mod Due
+pub mod Order
+pub mod Kept
