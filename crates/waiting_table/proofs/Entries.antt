@@ -34,6 +34,16 @@ pub no_rows : (es : List Entry) → ((k : ℕ) (d : Entry) → k < length es →
 no_rows [] h = refl
 no_rows (x ∷ es) h = rows_no x es (h 0 x (omega arith)) ∙ no_rows es (λ k d l. h (suc k) d (omega (arith, l)))
 
+-- the first entry that waits has the first row
+pub first_row : (es : List Entry) (i : ℕ) (e : Entry) → slice_get es i ≡ Some e → e.waits ≡ true → ((k : ℕ) (d : Entry) → k < i → (get_or es k d).waits ≡ false) → slice_get (rows_of es) 0 ≡ Some e.row
+first_row [] i e at w before = absurd (none-some e at)
+first_row (x ∷ es) zero e at w before =
+    let same : x ≡ e = same_Some x e at in
+    ap (λ (y : Entry). slice_get (rows_of (y ∷ es)) 0) same ∙ ap (λ (l : List Waiting). slice_get l 0) (rows_yes e es w)
+first_row (x ∷ es) (suc i) e at w before =
+    ap (λ (l : List Waiting). slice_get l 0) (rows_no x es (before 0 x (omega arith)))
+    ∙ first_row es i e at w (λ k d l. before (suc k) d (omega (arith, l)))
+
 -- so holes at the end may go
 pub rows_before : (es : List Entry) (n : ℕ) → n ≤ length es → ((k : ℕ) (d : Entry) → n ≤ k → k < length es → (get_or es k d).waits ≡ false) → rows_of (take n es) ≡ rows_of es
 rows_before es n within h =
@@ -183,7 +193,7 @@ fewer_rows (x ∷ es) zero e at w =
 fewer_rows (x ∷ es) (suc i) e at w =
     let rest : length (rows_of (set es i (record e { waits = false }))) + 1 ≡ length (rows_of es) = fewer_rows es i e at w in
     let here : (ys : List Entry) → length (rows_of (x ∷ ys)) ≡ cond x.waits 1 0 + length (rows_of ys) = λ ys. elim (cases_Bool x.waits) [
-      | inl y ↦ (let a : length (rows_of (x ∷ ys)) ≡ suc (length (rows_of ys)) = ap (λ (l : List Waiting). length l) (rows_yes x ys y) in omega (arith, a, cond-true x.waits 1 0 y))
-      | inr n ↦ (let a : length (rows_of (x ∷ ys)) ≡ length (rows_of ys) = ap (λ (l : List Waiting). length l) (rows_no x ys n) in omega (arith, a, cond-false x.waits 1 0 n))
+      | inl y ↦ (let a : length (rows_of (x ∷ ys)) ≡ suc (length (rows_of ys)) = ap (λ (l : List Waiting). length l) (rows_yes x ys y) in omega (arith, a, cond-true {A = ℕ} x.waits 1 0 y))
+      | inr n ↦ (let a : length (rows_of (x ∷ ys)) ≡ length (rows_of ys) = ap (λ (l : List Waiting). length l) (rows_no x ys n) in omega (arith, a, cond-false {A = ℕ} x.waits 1 0 n))
     ] in
     omega (arith, rest, here (set es i (record e { waits = false })), here es)

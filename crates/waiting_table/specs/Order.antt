@@ -1,5 +1,5 @@
 -- Rows by ticket, with holes: what stands in the memory of an order, and its invariant.
-use Rattle.std.specs.Prelude.{ℕ, ◌≡◌, ◌<◌, ◌≤◌, ◌*◌, ◌-◌, true, false, List, map, length, Some, None, slice_get, slice_index_or}
+use Rattle.std.specs.Prelude.{ℕ, ◌≡◌, ◌<◌, ◌≤◌, ◌*◌, ◌-◌, nat_lt, true, false, if◌then◌else◌, List, map, length, Some, None, slice_get, slice_index_or}
 use Rattle.std.specs.List.{AllPairs, filter, find, HoldsAt}
 use Rattle.waiting_table.specs.declared.row.Waiting.{Waiting}
 use Rattle.waiting_table.specs.declared.order.Entry.{Entry}
@@ -35,6 +35,11 @@ pub record EndsAt (entries : List Entry) (n : ℕ) : Type 0 where
   pub within : n ≤ length entries
   pub holes : (k : ℕ) (d : Entry) → n ≤ k → k < length entries → (slice_index_or entries k d).waits ≡ false
   pub last : 0 < n → HoldsAt (λ e. e.waits ≡ true) entries (n - 1)
+
+-- the entries without the holes, where more than half of them are holes: so many wait
+abbrev pub squeezed : ℕ → List Entry → List Entry
+squeezed waiting entries =
+    if nat_lt (2 * waiting) (length entries) then filter (λ e. e.waits) entries else entries
 
 -- The invariant of an order: tickets rise, at most half of the entries are holes, and there is memory for twice as many
 -- entries as rows may wait.

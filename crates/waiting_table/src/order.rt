@@ -1,7 +1,7 @@
 //! Rows in the order of their tickets.
-ghost use Rattle.std.specs.Prelude.{◌≡◌, ◌<◌, ◌≤◌, [], length, is_some, IfOk, MatchOption, option_copied, slice_get};
+ghost use Rattle.std.specs.Prelude.{◌≡◌, ◌<◌, ◌≤◌, [], length, is_some, IfOk, MatchOption, option_copied, slice_get, vec_capacity};
 ghost use Rattle.waiting_table.specs.Table.{first_from, forwarded, row_of, with_row, without, AreRising, IsAbove};
-ghost use Rattle.waiting_table.specs.Order.{rows_of, EndsAt, EntriesRise, HasNone, IsEntryOf, IsPlaceOf};
+ghost use Rattle.waiting_table.specs.Order.{rows_of, squeezed, EndsAt, EntriesRise, HasNone, IsEntryOf, IsPlaceOf};
 
 use crate::row::Waiting;
 use std::alloc::{AllocError, Global};
@@ -87,9 +87,7 @@ impl TicketOrder {
         let row = self.entries[at].row;
         self.entries[at].waits = false;
         self.waiting -= 1;
-        if self.entries.len() > 2 * self.waiting as usize {
-            self.entries.retain(|entry| entry.waits);
-        }
+        squeeze(&mut self.entries, self.waiting);
         Some(row)
     }
 
@@ -124,6 +122,16 @@ fn end_of(entries: &[Entry]) -> usize
         end -= 1;
     }
     end
+}
+
+// Squeezes out the holes where more than half of the entries are holes.
+fn squeeze(entries: &mut Vec<Entry>, waiting: u32)
+    ensures items { entries.new.items ≡ squeezed waiting entries.old.items }
+    ensures capacity { vec_capacity entries.new ≡ vec_capacity entries.old }
+{
+    if entries.len() > 2 * waiting as usize {
+        entries.retain(|entry| entry.waits);
+    }
 }
 
 // The index of the first entry of which the ticket is this or a greater one.
