@@ -1,3 +1,6 @@
 pub mod Entries
 pub mod Ordered
 pub mod Missing
+pub mod Places
+pub mod Keys
+pub mod Tables

@@ -1,14 +1,10 @@
 -- The invariant of a table.
-use Rattle.std.specs.Prelude.{ℕ, ◌≡◌, ◌<◌, ◌≤◌, ◌+◌, ◌^◌, ◌==◌, pos, nat_lt, List, length, reverse, Option, Some, option_map, IfSome, if◌then◌else◌}
-use Rattle.std.specs.List.{All, Contains, count_by, range_with_len}
+use Rattle.std.specs.Prelude.{ℕ, ◌≡◌, ◌<◌, ◌≤◌, ◌+◌, ◌^◌, ◌==◌, pos, nat_lt, List, length, Option, Some, option_map, IfSome, if◌then◌else◌}
+use Rattle.std.specs.List.{All, Contains, count_by}
 use Rattle.winner_tree.specs.declared.key.Key.{Key}
 use Rattle.winner_tree.specs.Order.{key_of, HasKey}
 use Rattle.waiting_table.specs.declared.row.Waiting.{Waiting}
 use Rattle.waiting_table.specs.Table.{TableView, AreRising}
-
--- the places of a room, the first one last
-abbrev pub places_below : ℕ → List ℕ
-places_below room = reverse (range_with_len 0 room)
 
 -- each place of the room is free or has one row, once
 abbrev pub ArePlaces : List Waiting → List ℕ → ℕ → Type 0

@@ -1,8 +1,8 @@
 //! The table.
-ghost use Rattle.std.specs.Prelude.{◌≡◌, ◌<◌, ◌≤◌, [], length, is_some, IfOk, MatchOption, option_copied};
+ghost use Rattle.std.specs.Prelude.{◌≡◌, ◌<◌, ◌≤◌, [], length, is_some, IfOk, MatchOption, option_copied, vec_capacity};
 ghost use Rattle.waiting_table.specs.Table.{first_from, forwarded, row_at, row_of, with_row, without, IsAbove, IsFree, IsTable};
 ghost use Rattle.waiting_table.specs.Due.{HasNoDeadline, IsFirstDue};
-ghost use Rattle.waiting_table.specs.Kept.{key_at, places_below};
+ghost use Rattle.waiting_table.specs.Kept.{key_at, ArePlaces, IsInRange};
 
 use crate::order::TicketOrder;
 use crate::row::{Coming, Due, Waiting};
@@ -126,19 +126,27 @@ impl WaitingTable {
 
 // The key of a row among the deadlines: by deadline, then by ticket.
 fn key_of(row: &Waiting) -> Option<Key>
-    ensures { result ≡ key_at row.now }
+    ensures key { result ≡ key_at row.now }
+    ensures in_range { IsInRange row.now }
 {
+    let ticket = row.ticket;
     let deadline = row.deadline?;
     Some(Key {
         a: deadline as i128,
-        b: row.ticket as i128,
+        b: ticket as i128,
         c: 0,
     })
 }
 
 // All places of a room, of which the first is the last.
 fn all_places(alloc: Global, room: u32) -> Result<Vec<u32>, AllocError>
-    ensures { IfOk result (λ v. v.items ≡ places_below room) }
+    ensures places { IfOk result (λ v. ArePlaces [] v.items room) }
+    ensures all { IfOk result (λ v. length v.items ≡ room) }
+    ensures reserved { IfOk result (λ v. vec_capacity v ≡ room) }
 {
-    (0..room).rev().collect(alloc)
+    let mut free = Vec::with_capacity(alloc, room as usize)?;
+    'places: for given in 0..room {
+        free.push_reserved(room - 1 - given);
+    }
+    Ok(free)
 }
