@@ -4,3 +4,4 @@ pub mod Missing
 pub mod Places
 pub mod Keys
 pub mod Tables
+pub mod First

@@ -1,7 +1,7 @@
 -- The places of rows, and those that are free.
-use Rattle.std.proofs.Common.{◌≡◌, ◌≢◌, ℕ, zero, suc, ◌+◌, ◌<◌, ◌≤◌, Bool, true, false, cond, not, eqb, ltb, List, [], ◌∷◌, ◌++◌, Some, map, length, get_or, arith, refl, sym, ap, ◌∙◌, subst, inl, inr}
+use Rattle.std.proofs.Common.{◌≡◌, ◌≢◌, ℕ, zero, suc, ◌+◌, ◌-◌, ◌<◌, ◌≤◌, Bool, true, false, cond, not, eqb, ltb, List, [], ◌∷◌, ◌++◌, Some, map, length, get_or, arith, refl, sym, ap, ◌∙◌, subst, inl, inr}
 use Rattle.std.specs.List.{All, AllPairs, Contains, filter, find, count_by}
-use Rattle.std.proofs.lemmas.Bool.{cases_Bool, cases_order, cond-true, cond-false, cond_both, eqb-true, eq-eqb, ne_eqb, le-ltb, cases_lt}
+use Rattle.std.proofs.lemmas.Bool.{cases_Bool, cases_order, cond-true, cond-false, cond_both, eqb-true, eq-eqb, ne_eqb, le-ltb, lt-ltb, cases_lt, cases_eq}
 use Rattle.std.proofs.lemmas.List.{get_or-map, length-map, get_or_default}
 use Rattle.std.proofs.lemmas.List.Sums.{sum_by-cons, sum_by_push, get_or-le-sum_by}
 use Rattle.std.proofs.lemmas.List.Elements.{All-contains, All-contains_itself, All-filter, Contains-get_or}
@@ -62,6 +62,23 @@ free_within rows free room place h =
       | inl l ↦ (l, omega (arith, h place, more, one, cond_le (ltb place room)))
       | inr l ↦ absurd (omega (arith, h place, more, one, cond-false {A = ℕ} (ltb place room) 1 0 (le-ltb place room l)))
     ]
+
+-- the free places of an empty room, from the greatest one down to this
+module _ (free : List ℕ) (room given : ℕ) (some : given < room) (lower : (place : ℕ) → place < room - given → spare place free ≡ 0) where
+  abbrev next : ℕ
+  next = room - 1 - given
+
+  more : (place : ℕ) → spare place (free ++ next ∷ []) ≡ spare place free + cond {A = ℕ} (eqb next place) 1 0
+  more place = sum_by_push (λ p. cond (eqb p place) 1 0) free next
+
+  pub places_more : ArePlaces [] free room → ArePlaces [] (free ++ next ∷ []) room
+  places_more h place = elim (cases_eq next place) [
+    | inl e ↦ omega (arith, more place, one_at next place e, lower place (omega (arith, e, some)), cond-true {A = ℕ} (ltb place room) 1 0 (lt-ltb place room (omega (arith, e, some))))
+    | inr ne ↦ omega (arith, more place, none_at next place ne, h place)
+  ]
+
+  pub lower_more : (place : ℕ) → place < room - (given + 1) → spare place (free ++ next ∷ []) ≡ 0
+  lower_more place l = omega (arith, more place, none_at next place (λ e. absurd (omega (arith, e, l, some))), lower place (omega (arith, l)))
 
 module _ (ticket : ℕ) where
   abbrev pub others : List Waiting → List Waiting
