@@ -33,11 +33,11 @@ keys_pushed rows keys w k apart within = record {
       (get_or-set_same keys w.place (key_at w) None within);
   others = λ place key h. elim (cases_eq place w.place) [
     | inl e ↦ record {
-        row = w;
-        waits = Contains-push rows w;
-        place_is = sym e;
-        key_is = sym (get_or-set_same keys w.place (key_at w) None within) ∙ ap (key_of (set keys w.place (key_at w))) (sym e) ∙ h;
-      }
+      row = w;
+      waits = Contains-push rows w;
+      place_is = sym e;
+      key_is = sym (get_or-set_same keys w.place (key_at w) None within) ∙ ap (key_of (set keys w.place (key_at w))) (sym e) ∙ h;
+    }
     | inr ne ↦
         let old = k.others place key (sym (get_or-set_other keys w.place place (key_at w) None ne) ∙ h) in
         record { row = old.row; waits = Contains-append_left rows (w ∷ []) old.row old.waits; place_is = old.place_is; key_is = old.key_is }

@@ -39,8 +39,8 @@ apart_from_taken [] h = λ i j d lt l. absurd (omega (arith, l))
 apart_from_taken (w ∷ rows) h =
     AllPairs-cons (λ (w other : Waiting). w.place ≢ other.place) w rows
     (λ k d l e.
-        let v : Waiting = get_or rows k d in
-        absurd (omega (arith, h v.place, taken_cons v.place w rows, one_at w.place v.place e, taken_by rows v (Contains-get_or rows k d l))))
+    let v : Waiting = get_or rows k d in
+    absurd (omega (arith, h v.place, taken_cons v.place w rows, one_at w.place v.place e, taken_by rows v (Contains-get_or rows k d l))))
     (apart_from_taken rows (λ place. omega (arith, h place, taken_cons place w rows)))
 
 -- a place that is in the room

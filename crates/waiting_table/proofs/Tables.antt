@@ -46,10 +46,12 @@ module _ (v : TableView) (free : List ℕ) (capacity : ℕ) (keys : List (Option
   module _ (rest : List ℕ) (place : ℕ) (last : free ≡ rest ++ place ∷ []) where
     pub is_free : IsFree v place
     is_free =
-        let at = free_within v.rows rest v.room place (subst (λ (l : List ℕ). ArePlaces v.rows l v.room) last k.places) in
-        (at.0, λ i d l e.
-            let w : Waiting = get_or v.rows i d in
-            absurd (omega (arith, at.1, subst (λ n. 1 ≤ taken n v.rows) e (taken_by v.rows w (Contains-get_or v.rows i d l)))))
+        let at = free_within v.rows rest v.room place (subst (λ (l : List ℕ). ArePlaces v.rows l v.room) last k.places) in (
+          at.0,
+          λ i d l e.
+              let w : Waiting = get_or v.rows i d in
+              absurd (omega (arith, at.1, subst (λ n. 1 ≤ taken n v.rows) e (taken_by v.rows w (Contains-get_or v.rows i d l)))),
+        )
 
     pub keeps_pushed : (w : Waiting) → w.place ≡ place → IsInRange w → IsAbove v w.ticket → KeepsTable (with_row v w) rest capacity (set keys place (key_at w))
     keeps_pushed w at range above = record {

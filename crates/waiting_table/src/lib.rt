@@ -8,6 +8,8 @@
 pub mod order;
 pub mod row;
 pub mod table;
+#[cfg(test)]
+mod tests;
 
 pub use order::TicketOrder;
 pub use row::{Coming, Due, Waiting};

@@ -9,7 +9,7 @@ use std::marker::Model;
 
 /// A row and whether it waits. An entry of which the row waits no more is a hole, which keeps its ticket.
 #[derive(Clone, Copy)]
-pub struct Entry {
+struct Entry {
     pub row: Waiting,
     pub waits: bool,
 }
