@@ -5,3 +5,4 @@ pub mod Places
 pub mod Keys
 pub mod Tables
 pub mod First
+pub mod Found

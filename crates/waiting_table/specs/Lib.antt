@@ -2,3 +2,4 @@ pub mod Table
 pub mod Due
 pub mod Order
 pub mod Kept
+pub mod Laws

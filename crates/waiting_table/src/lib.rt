@@ -5,6 +5,7 @@
 //! of them are squeezed out at once. The least deadline comes from a tree of winners by place.
 #![tactic(auto)]
 
+pub mod laws;
 pub mod order;
 pub mod row;
 pub mod table;
