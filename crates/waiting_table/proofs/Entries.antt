@@ -1,5 +1,5 @@
 -- Entries, and the rows among them that wait.
-use Rattle.std.proofs.Common.{◌≡◌, ◌≢◌, ℕ, zero, suc, ◌+◌, ◌<◌, ◌≤◌, Bool, true, false, cond, not, List, [], ◌∷◌, ◌++◌, Option, Some, None, map, length, get_or, set, take, drop, arith, refl, sym, ap, ◌∙◌, subst, inl, inr}
+use Rattle.std.proofs.Common.{◌≡◌, ◌≢◌, ℕ, zero, suc, ◌+◌, ◌<◌, ◌≤◌, Bool, true, false, cond, not, List, [], ◌∷◌, ◌++◌, Some, None, map, length, get_or, set, take, drop, arith, refl, sym, ap, ◌∙◌, subst, inl, inr}
 use Rattle.std.specs.List.{All, filter, find, slice_get}
 use Rattle.std.proofs.lemmas.Bool.{cases_Bool, cond-true, cond-false}
 use Rattle.std.proofs.lemmas.List.{map-append, take-append-drop, append-nil, get_or-drop, length-drop}
@@ -139,7 +139,7 @@ module _ (p : Waiting → Bool) where
   keeps_all (x ∷ es) h =
       keeps_on x es (rows_of es) (h 0 x (omega arith)) (keeps_all es (λ k d l. h (suc k) d (omega (arith, l)))) ∙ sym (rows_cond x es)
 
-  -- where one entry alone passes, the others are what is left once it is a hole
+  -- if one entry alone passes, the others are what is left once it is a hole
   pub rows_without : (es : List Entry) (i : ℕ) (e : Entry) → slice_get es i ≡ Some e → e.waits ≡ true → p e.row ≡ true → ((k : ℕ) (d : Entry) → k ≢ i → k < length es → p (get_or es k d).row ≡ false) → rows_of (set es i (record e { waits = false })) ≡ filter (λ w. not (p w)) (rows_of es)
   rows_without [] i e at w t others = absurd (none-some e at)
   rows_without (x ∷ es) zero e at w t others =
@@ -169,7 +169,7 @@ module _ (p : Waiting → Bool) where
           | inr n ↦ ap (map f) (rows_no x es n) ∙ rest ∙ sym (rows_no x es n)
         ]
 
-    -- where one entry alone passes, its row alone is changed
+    -- if one entry alone passes, its row alone is changed
     pub rows_mapped : (es : List Entry) (i : ℕ) (e : Entry) → slice_get es i ≡ Some e → e.waits ≡ true → ((k : ℕ) (d : Entry) → k ≢ i → k < length es → p (get_or es k d).row ≡ false) → rows_of (set es i (record e { row = f e.row })) ≡ map f (rows_of es)
     rows_mapped [] i e at w others = absurd (none-some e at)
     rows_mapped (x ∷ es) zero e at w others =

@@ -3,12 +3,12 @@ use Rattle.std.proofs.Common.{◌≡◌, ◌≢◌, ℕ, zero, suc, ◌+◌, ◌
 use Rattle.std.specs.List.{All, filter, find}
 use Rattle.std.specs.Option.{option_map}
 use Rattle.std.proofs.lemmas.Bool.{cases_Bool, cases_eq, cond-true, cond-false, eqb-true, eq-eqb, ne_eqb, le-leb, lt-leb}
-use Rattle.std.proofs.lemmas.List.{append_assoc, append-nil, get_or-append-add, length-append}
+use Rattle.std.proofs.lemmas.List.{append_assoc, get_or-append-add, length-append}
 use Rattle.std.proofs.lemmas.List.Elements.{All-nil, All-head, All-tail, All-push, All-weaker}
 use Rattle.waiting_table.specs.declared.row.Due.{Due}
 use Rattle.waiting_table.specs.declared.row.Waiting.{Waiting}
-use Rattle.waiting_table.specs.Table.{TableView, AreRising, IsAbove, IsTable, has_ticket, first_from, forwarded, numbered, row_of, with_row, without}
-use Rattle.waiting_table.specs.Due.{IsFirstDue, IsDue, IsNoLater}
+use Rattle.waiting_table.specs.Table.{TableView, AreRising, has_ticket, first_from, numbered, row_of}
+use Rattle.waiting_table.specs.Due.{IsNoLater}
 use Rattle.waiting_table.specs.Laws.{AddedIsFound, RemovedIsGone, ForwardedIsFound, WalkMeetsEach, FirstDueIsUnique, met, walk}
 use Rattle.waiting_table.proofs.Places.{same_ticket}
 
@@ -109,18 +109,18 @@ walk_on room front (w ∷ back) from zero rising past ahead enough = absurd (ome
 walk_on room front (w ∷ back) from (suc steps) rising past ahead enough =
     let at : from ≤ w.ticket = All-head (λ (v : Waiting). from ≤ v.ticket) w back ahead in
     let first : first_from (table room (front ++ w ∷ back)) from ≡ Some w =
-        find_past (λ v. leb from v.ticket) front (w ∷ back) (All-weaker (λ (v : Waiting). v.ticket < from) (λ (v : Waiting). leb from v.ticket ≡ false) (λ v l. lt-leb from v.ticket l) front past)
-        ∙ yes_first (λ v. leb from v.ticket) w back (le-leb from w.ticket at) in
+    find_past (λ v. leb from v.ticket) front (w ∷ back) (All-weaker (λ (v : Waiting). v.ticket < from) (λ (v : Waiting). leb from v.ticket ≡ false) (λ v l. lt-leb from v.ticket l) front past)
+    ∙ yes_first (λ v. leb from v.ticket) w back (le-leb from w.ticket at) in
     let split : (front ++ w ∷ []) ++ back ≡ front ++ w ∷ back = append_assoc front (w ∷ []) back in
     let done : All (λ (v : Waiting). v.ticket < w.ticket + 1) (front ++ w ∷ []) =
-        All-push (λ (v : Waiting). v.ticket < w.ticket + 1) front w (All-weaker (λ (v : Waiting). v.ticket < from) (λ (v : Waiting). v.ticket < w.ticket + 1) (λ v l. omega (arith, l, at)) front past) (omega arith) in
+    All-push (λ (v : Waiting). v.ticket < w.ticket + 1) front w (All-weaker (λ (v : Waiting). v.ticket < from) (λ (v : Waiting). v.ticket < w.ticket + 1) (λ v l. omega (arith, l, at)) front past) (omega arith) in
     let left : All (λ (v : Waiting). w.ticket + 1 ≤ v.ticket) back = λ k d l.
-        let size : length (front ++ w ∷ back) ≡ length front + suc (length back) = length-append front (w ∷ back) in
-        let here : (get_or (front ++ w ∷ back) (length front + 0) d).ticket ≡ w.ticket = ap (λ (v : Waiting). v.ticket) (get_or-append-add front (w ∷ back) 0 d) in
-        let there : (get_or (front ++ w ∷ back) (length front + suc k) d).ticket ≡ (get_or back k d).ticket = ap (λ (v : Waiting). v.ticket) (get_or-append-add front (w ∷ back) (suc k) d) in
-        omega (arith, here, there, rising (length front + 0) (length front + suc k) d (omega arith) (omega (arith, l, size))) in
+    let size : length (front ++ w ∷ back) ≡ length front + suc (length back) = length-append front (w ∷ back) in
+    let here : (get_or (front ++ w ∷ back) (length front + 0) d).ticket ≡ w.ticket = ap (λ (v : Waiting). v.ticket) (get_or-append-add front (w ∷ back) 0 d) in
+    let there : (get_or (front ++ w ∷ back) (length front + suc k) d).ticket ≡ (get_or back k d).ticket = ap (λ (v : Waiting). v.ticket) (get_or-append-add front (w ∷ back) (suc k) d) in
+    omega (arith, here, there, rising (length front + 0) (length front + suc k) d (omega arith) (omega (arith, l, size))) in
     let rest : walk steps (table room ((front ++ w ∷ []) ++ back)) (w.ticket + 1) ≡ back =
-        walk_on room (front ++ w ∷ []) back (w.ticket + 1) steps (subst AreRising (sym split) rising) done left (omega (arith, enough)) in
+    walk_on room (front ++ w ∷ []) back (w.ticket + 1) steps (subst AreRising (sym split) rising) done left (omega (arith, enough)) in
     ap (met (walk steps (table room (front ++ w ∷ back)))) first
     ∙ ap (λ (l : List Waiting). w ∷ l) (ap (λ (l : List Waiting). walk steps (table room l) (w.ticket + 1)) (sym split) ∙ rest)
 

@@ -1,15 +1,15 @@
 -- The keys of deadlines, by place.
-use Rattle.std.proofs.Common.{◌≡◌, ◌≢◌, ℕ, ◌+◌, ◌<◌, ◌≤◌, cond, eqb, ltb, List, [], ◌∷◌, ◌++◌, Option, Some, None, map, length, get_or, set, replicate, arith, refl, sym, ap, ◌∙◌, subst, inl, inr}
+use Rattle.std.proofs.Common.{◌≡◌, ◌≢◌, ℕ, ◌+◌, ◌<◌, cond, eqb, ltb, List, [], ◌∷◌, ◌++◌, Option, Some, None, map, length, get_or, set, replicate, arith, sym, ap, ◌∙◌, inl, inr}
 use Rattle.std.specs.List.{All, Contains, find}
 use Rattle.std.proofs.lemmas.Bool.{cases_eq, cases_lt}
 use Rattle.std.proofs.lemmas.List.{get_or-set_same, get_or-set_other, get_or-map, length-map, get_or-replicate, get_or_past, length-replicate}
-use Rattle.std.proofs.lemmas.List.Elements.{All-nil, All-push, All-map, All-weaker, All-contains, Contains-push, Contains-append_left, Contains-get_or}
+use Rattle.std.proofs.lemmas.List.Elements.{All-nil, All-push, All-map, All-contains, Contains-push, Contains-append_left, Contains-get_or}
 use Rattle.std.proofs.lemmas.Option.{none-some}
 use Rattle.winner_tree.specs.declared.key.Key.{Key}
-use Rattle.winner_tree.specs.Order.{key_of, HasKey}
+use Rattle.winner_tree.specs.Order.{key_of}
 use Rattle.waiting_table.specs.declared.row.Waiting.{Waiting}
 use Rattle.waiting_table.specs.Table.{AreRising, has_ticket, numbered}
-use Rattle.waiting_table.specs.Kept.{ArePlaces, AreKeys, IsKeyed, key_at}
+use Rattle.waiting_table.specs.Kept.{ArePlaces, AreKeys, key_at}
 use Rattle.waiting_table.proofs.Places.{others, found_here, found_ticket, same_row, others_are, others_have, count_others, taken, taken_by, one_at, same_place, same_key, cond_le}
 
 none_there : (room place : ℕ) → key_of (replicate room None) place ≡ None

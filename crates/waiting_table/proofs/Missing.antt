@@ -1,5 +1,5 @@
 -- Rows that are not there: changes of them change nothing.
-use Rattle.std.proofs.Common.{◌≡◌, ℕ, ◌<◌, leb, not, true, false, List, [], ◌∷◌, Some, None, map, refl, sym, ap, ◌∙◌, inl, inr}
+use Rattle.std.proofs.Common.{◌≡◌, ℕ, ◌<◌, leb, not, false, List, [], ◌∷◌, Some, None, map, refl, sym, ap, ◌∙◌, inl, inr}
 use Rattle.std.specs.List.{All, filter, find}
 use Rattle.std.proofs.lemmas.Bool.{cases_Bool, cond-true, cond-false, leb-false}
 use Rattle.std.proofs.lemmas.List.Elements.{All-nil, All-cons}
@@ -29,7 +29,7 @@ module _ (ticket : ℕ) where
       ap (λ (v : Waiting). v ∷ map (numbered ticket request) ws) (cond-false (has_ticket ticket w) (record w { request = Some request }) w (head_fails w ws h))
       ∙ ap (λ (l : List Waiting). w ∷ l) (forwarded_none request ws (rest_fails w ws h))
 
--- where no row has this ticket or a greater one, it is above all
+-- if no row has this ticket or a greater one, it is above all
 pub above_from : (ticket : ℕ) (ws : List Waiting) → find (λ (w : Waiting). leb ticket w.ticket) ws ≡ None → All (λ w. w.ticket < ticket) ws
 above_from ticket [] h = All-nil (λ (w : Waiting). w.ticket < ticket)
 above_from ticket (w ∷ ws) h = elim (cases_Bool (leb ticket w.ticket)) [

@@ -1,8 +1,8 @@
 -- Rising tickets of entries.
-use Rattle.std.proofs.Common.{◌≡◌, ◌≢◌, ℕ, ◌+◌, ◌-◌, ◌<◌, ◌≤◌, true, false, ltb, leb, eqb, List, [], ◌∷◌, ◌++◌, Some, None, map, length, get_or, set, take, drop, not, cond, ◌*◌, arith, refl, sym, ap, ◌∙◌, subst, inl, inr}
-use Rattle.std.specs.List.{All, AllPairs, filter, find, slice_get, HoldsAt}
+use Rattle.std.proofs.Common.{◌≡◌, ◌≢◌, ℕ, ◌+◌, ◌-◌, ◌<◌, ◌≤◌, true, false, ltb, leb, List, [], ◌∷◌, ◌++◌, Some, map, length, get_or, set, take, drop, not, ◌*◌, arith, refl, sym, ap, ◌∙◌, subst, inl, inr}
+use Rattle.std.specs.List.{All, filter, find, slice_get}
 use Rattle.std.specs.List.Sorted.{IsNonDecreasingBy, IsPartitionPoint}
-use Rattle.std.proofs.lemmas.Bool.{cases_Bool, cases_eq, cases_order, lt-leb, le-leb, ltb-true, ltb-false, ne_eqb, eq-eqb, false≢true, cond-true, cond-false}
+use Rattle.std.proofs.lemmas.Bool.{cases_Bool, cases_eq, cases_order, lt-leb, le-leb, ltb-true, ltb-false, ne_eqb, eq-eqb, cond-true, cond-false}
 use Rattle.std.proofs.lemmas.List.{get_or-map, get_or-set_same, get_or-set_other, get_or-take, length-take-le, length-set, length-map, length_push}
 use Rattle.std.proofs.lemmas.List.Kept.{AllPairs-filter}
 use Rattle.std.proofs.lemmas.List.Quantifiers.{all_pairs_push}
@@ -43,7 +43,7 @@ first_behind es ticket i h =
     (λ k d g l. le-leb ticket (get_or es k d).row.ticket (h.behind k d g l))
 
 module _ (es : List Entry) (ticket : ℕ) (rising : EntriesRise es) where
-  -- where the place of a ticket has another one, or a hole, no row of the ticket waits
+  -- if at the place of a ticket stands another one, or a hole, no row of the ticket waits
   pub none_from_place : (i : ℕ) → IsPlaceOf es ticket i → ((d : Entry) → i < length es → (get_or es i d).waits ≡ true → (get_or es i d).row.ticket ≢ ticket) → HasNone es ticket
   none_from_place i h apart = find_none (has_ticket ticket) es (λ k d l w. ne_eqb (get_or es k d).row.ticket ticket (λ e. elim (cases_order k i) [
     | inl at ↦ apart d (omega (arith, l, at)) (subst (λ n. (get_or es n d).waits ≡ true) at w) (subst (λ n. (get_or es n d).row.ticket ≡ ticket) at e)

@@ -1,6 +1,6 @@
 -- The places of rows, and those that are free.
 use Rattle.std.proofs.Common.{◌≡◌, ◌≢◌, ℕ, zero, suc, ◌+◌, ◌-◌, ◌<◌, ◌≤◌, Bool, true, false, cond, not, eqb, ltb, List, [], ◌∷◌, ◌++◌, Some, map, length, get_or, arith, refl, sym, ap, ◌∙◌, subst, inl, inr}
-use Rattle.std.specs.List.{All, AllPairs, Contains, filter, find, count_by}
+use Rattle.std.specs.List.{AllPairs, Contains, filter, find, count_by}
 use Rattle.std.proofs.lemmas.Bool.{cases_Bool, cases_order, cond-true, cond-false, cond_both, eqb-true, eq-eqb, ne_eqb, le-ltb, lt-ltb, cases_lt, cases_eq}
 use Rattle.std.proofs.lemmas.List.{get_or-map, length-map, get_or_default}
 use Rattle.std.proofs.lemmas.List.Sums.{sum_by-cons, sum_by_push, get_or-le-sum_by}
@@ -33,7 +33,7 @@ taken_by rows w h =
 pub taken_cons : (place : ℕ) (w : Waiting) (rows : List Waiting) → taken place (w ∷ rows) ≡ cond (eqb w.place place) 1 0 + taken place rows
 taken_cons place w rows = sum_by-cons (λ (v : Waiting). cond (eqb v.place place) 1 0) w rows
 
--- where no place is taken twice, no two rows have one place
+-- if no place is taken twice, no two rows have one place
 pub apart_from_taken : (rows : List Waiting) → ((place : ℕ) → taken place rows ≤ 1) → AllPairs (λ (w other : Waiting). w.place ≢ other.place) rows
 apart_from_taken [] h = λ i j d lt l. absurd (omega (arith, l))
 apart_from_taken (w ∷ rows) h =

@@ -1,14 +1,14 @@
 -- What a table keeps.
-use Rattle.std.proofs.Common.{◌≡◌, ◌≢◌, ℕ, ◌+◌, ◌-◌, ◌<◌, ◌≤◌, ◌^◌, IfSome, zero, suc, true, cond, eqb, ltb, not, List, [], ◌∷◌, ◌++◌, Option, Some, None, map, length, get_or, set, replicate, arith, refl, sym, ap, ◌∙◌, subst, inl, inr}
-use Rattle.std.specs.List.{All, AllPairs, Contains, filter, find, count_by}
-use Rattle.std.proofs.lemmas.List.{length-set, length_push, length-map, length-replicate, get_or_default}
+use Rattle.std.proofs.Common.{◌≡◌, ◌≢◌, ℕ, ◌+◌, ◌<◌, ◌≤◌, ◌^◌, IfSome, true, cond, eqb, ltb, not, List, [], ◌∷◌, ◌++◌, Option, Some, None, length, get_or, set, replicate, arith, refl, sym, ap, ◌∙◌, subst}
+use Rattle.std.specs.List.{count_by}
+use Rattle.std.proofs.lemmas.List.{length-set, length_push, length-map, length-replicate}
 use Rattle.std.proofs.lemmas.List.Sums.{sum_by_push, sum_by-cons}
 use Rattle.std.proofs.lemmas.List.Elements.{All-nil, All-push, All-map, All-filter, Contains-get_or}
 use Rattle.std.proofs.lemmas.List.Kept.{AllPairs-filter}
 use Rattle.std.proofs.lemmas.List.Quantifiers.{all_pairs_push}
 use Rattle.winner_tree.specs.declared.key.Key.{Key}
 use Rattle.waiting_table.specs.declared.row.Waiting.{Waiting}
-use Rattle.waiting_table.specs.Table.{TableView, AreRising, IsAbove, IsFree, IsTable, row_of, with_row, without, forwarded, has_ticket, numbered}
+use Rattle.waiting_table.specs.Table.{TableView, IsAbove, IsFree, IsTable, row_of, with_row, without, forwarded, has_ticket, numbered}
 use Rattle.waiting_table.specs.Kept.{ArePlaces, AreKeys, IsInRange, KeepsTable, key_at}
 use Rattle.waiting_table.proofs.Places.{apart_from_taken, place_within, free_within, found_here, count_others, cond_le, taken, spare, taken_by, taken_numbered, rising_numbered, same_ticket, same_deadline, others}
 use Rattle.waiting_table.proofs.Keys.{no_keys, keys_pushed, keys_removed, keys_forwarded}

@@ -1,5 +1,5 @@
 -- Which deadline comes first.
-use Rattle.std.specs.Prelude.{ℕ, ◌≡◌, ◌<◌, ◌≤◌, ◌⊎◌, Option, Some, None}
+use Rattle.std.specs.Prelude.{◌≡◌, ◌<◌, ◌≤◌, ◌⊎◌, Some, None}
 use Rattle.std.specs.List.{All, Contains}
 use Rattle.waiting_table.specs.declared.row.Due.{Due}
 use Rattle.waiting_table.specs.declared.row.Waiting.{Waiting}

@@ -30,13 +30,13 @@ pub record IsPlaceOf (entries : List Entry) (ticket i : ℕ) : Type 0 where
   pub before : (k : ℕ) (d : Entry) → k < i → (slice_index_or entries k d).row.ticket < ticket
   pub behind : (k : ℕ) (d : Entry) → i ≤ k → k < length entries → ticket ≤ (slice_index_or entries k d).row.ticket
 
--- so many entries are left where the holes at the end are not counted
+-- so many entries are left without the holes at the end
 pub record EndsAt (entries : List Entry) (n : ℕ) : Type 0 where
   pub within : n ≤ length entries
   pub holes : (k : ℕ) (d : Entry) → n ≤ k → k < length entries → (slice_index_or entries k d).waits ≡ false
   pub last : 0 < n → HoldsAt (λ e. e.waits ≡ true) entries (n - 1)
 
--- the entries without the holes, where more than half of them are holes: so many wait
+-- the entries without the holes, if more than half of them are holes: so many rows wait
 abbrev pub squeezed : ℕ → List Entry → List Entry
 squeezed waiting entries =
     if nat_lt (2 * waiting) (length entries) then filter (λ e. e.waits) entries else entries

@@ -1,5 +1,5 @@
 -- The view of a table in contracts, and what is read from it.
-use Rattle.std.specs.Prelude.{ℕ, ◌≡◌, ◌≢◌, ◌<◌, ◌≤◌, ◌==◌, not, nat_le, Bool, List, [], ◌∷◌, ◌++◌, map, length, Option, Some, if◌then◌else◌}
+use Rattle.std.specs.Prelude.{ℕ, ◌≢◌, ◌<◌, ◌≤◌, ◌==◌, not, nat_le, Bool, List, [], ◌∷◌, ◌++◌, map, length, Option, Some, if◌then◌else◌}
 use Rattle.std.specs.List.{All, AllPairs, filter, find}
 use Rattle.waiting_table.specs.declared.row.Coming.{Coming}
 use Rattle.waiting_table.specs.declared.row.Waiting.{Waiting}

@@ -14,10 +14,10 @@ struct Entry {
     pub waits: bool,
 }
 
-/// Rows in the order of their tickets. Contracts see them as a table, too.
+/// Rows in the order of their tickets. Contracts see a table.
 ///
-/// A row is added at the end and found by a binary search. A removal leaves a hole, and all holes are squeezed out once
-/// more than half of the entries are holes, so that it takes constant time besides the search, on average.
+/// A row is added at the end, and found by a binary search. A removal leaves a hole. Once more than half of the entries
+/// are holes, all of them are squeezed out: on average that takes constant time for each removal.
 #[derive(Drop)]
 pub struct TicketOrder {
     entries: Vec<Entry>,
@@ -124,7 +124,7 @@ fn end_of(entries: &[Entry]) -> usize
     end
 }
 
-// Squeezes out the holes where more than half of the entries are holes.
+// Squeezes out the holes if more than half of the entries are holes: so many rows wait.
 fn squeeze(entries: &mut Vec<Entry>, waiting: u32)
     ensures items { entries.new.items ≡ squeezed waiting entries.old.items }
     ensures capacity { vec_capacity entries.new ≡ vec_capacity entries.old }

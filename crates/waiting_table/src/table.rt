@@ -15,7 +15,9 @@ pub const MOST_PLACES: u32 = 1048576;
 
 /// The requests that wait, by ticket. Contracts see the rows in the order of their tickets, and the number of places.
 ///
-/// A call takes time that grows with the logarithm of the number of rows, on average. All memory is taken at opening.
+/// On average a call takes time that grows with the logarithm of the number of rows; a removal now and then takes time
+/// that grows with the number itself. `first_from` also passes over what was removed: at most as many entries as there
+/// are rows.
 #[derive(Drop)]
 pub struct WaitingTable {
     order: TicketOrder,
@@ -107,8 +109,8 @@ impl WaitingTable {
         })
     }
 
-    /// The first row of which the ticket is this or a greater one. So a caller walks over all rows, from the least
-    /// ticket on, each time asking from the next number on. (Each entry is passed once: at most half of them are holes.)
+    /// The first row of which the ticket is this or a greater one. Who asks from ticket 0 on, and then each time from
+    /// the next number on, walks over all rows in order, whatever it forwards on its way.
     pub fn first_from(&self, ticket: u64) -> Option<&Waiting>
         ensures { option_copied result ≡ first_from self.now ticket }
     {

@@ -1,4 +1,4 @@
-use Rattle.std.proofs.Common.{◌<◌, ◌≤◌, List, arith, sym, ap}
+use Rattle.std.proofs.Common.{List, arith, sym, ap}
 use Rattle.std.specs.List.{slice_get}
 use Rattle.std.proofs.lemmas.Option.{slice_get-get_or}
 use Rattle.waiting_table.specs.declared.row.Waiting.{Waiting}

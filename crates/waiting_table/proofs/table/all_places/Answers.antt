@@ -1,7 +1,6 @@
-use Rattle.std.proofs.Common.{◌+◌, ◌-◌, ◌<◌, ◌≡◌, ℕ, arith, sym, ◌∙◌, subst}
+use Rattle.std.proofs.Common.{◌-◌, arith, ◌∙◌}
 use Rattle.std.proofs.lemmas.List.{length_push}
-use Rattle.waiting_table.proofs.Places.{spare, places_more, lower_more}
-use Rattle.waiting_table.specs.Kept.{ArePlaces}
+use Rattle.waiting_table.proofs.Places.{places_more, lower_more}
 use Rattle.waiting_table.proofs.table.all_places.Goals as goal
 
 pub places-preserved : goal.places-preserved

@@ -1,4 +1,4 @@
-use Rattle.std.proofs.Common.{◌≡◌, ℕ, ◌-◌, ◌<◌, ◌≤◌, [], length, vec_capacity}
+use Rattle.std.proofs.Common.{◌≡◌, ℕ, ◌-◌, ◌<◌, [], length, vec_capacity}
 use Rattle.waiting_table.specs.Kept.{ArePlaces}
 use Rattle.waiting_table.proofs.Places.{spare}
 use Rattle.waiting_table.proofs.table.all_places.Given as goal

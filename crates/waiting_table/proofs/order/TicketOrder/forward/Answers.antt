@@ -1,4 +1,4 @@
-use Rattle.std.proofs.Common.{◌≡◌, List, Option, is_some, length, map, arith, sym, ap, ◌∙◌, subst}
+use Rattle.std.proofs.Common.{◌≡◌, List, Option, is_some, arith, sym, ap, ◌∙◌, subst}
 use Rattle.waiting_table.specs.declared.order.Entry.{Entry}
 use Rattle.waiting_table.specs.declared.row.Waiting.{Waiting}
 use Rattle.waiting_table.specs.Table.{TableView, row_of, forwarded}

@@ -1,8 +1,8 @@
-use Rattle.std.proofs.Common.{◌+◌, ◌<◌, ◌++◌, [], ◌∷◌, List, length, true, sym, ap, ◌∙◌, subst}
+use Rattle.std.proofs.Common.{◌<◌, ◌++◌, [], ◌∷◌, List, length, true, sym, ap, ◌∙◌, subst}
 use Rattle.waiting_table.specs.declared.order.Entry.{Entry}
 use Rattle.waiting_table.specs.declared.row.Waiting.{Waiting}
 use Rattle.waiting_table.specs.Table.{TableView, with_row, IsAbove}
-use Rattle.waiting_table.specs.Order.{rows_of, EndsAt, KeepsOrder}
+use Rattle.waiting_table.specs.Order.{rows_of, EndsAt}
 use Rattle.waiting_table.proofs.Ordered.{rows_pushed, keeps_pushed}
 use Rattle.waiting_table.proofs.order.TicketOrder.push.Goals as goal
 

@@ -1,4 +1,4 @@
-use Rattle.std.proofs.Common.{◌≡◌, ◌-◌, List, arith, sym, ap, ◌∙◌, subst, false, set}
+use Rattle.std.proofs.Common.{◌≡◌, ◌-◌, List, arith, sym, ap, ◌∙◌, subst}
 use Rattle.waiting_table.specs.declared.order.Entry.{Entry}
 use Rattle.waiting_table.specs.declared.row.Waiting.{Waiting}
 use Rattle.waiting_table.specs.Table.{TableView, row_of, without}

@@ -1,9 +1,8 @@
 use lib.IntN.{nat_abs}
 use mir.Val.{to_z, of_z}
 use mir.Syntax.{w128}
-use Rattle.std.proofs.Common.{◌≡◌, pos, arith, sym, ap, ◌∙◌, subst}
-use Rattle.std.proofs.lemmas.Int.{ints, to_z-of_z}
-use Rattle.waiting_table.specs.declared.row.Due.{Due}
+use Rattle.std.proofs.Common.{◌≡◌, pos, arith, sym, ap, subst}
+use Rattle.std.proofs.lemmas.Int.{ints}
 use Rattle.winner_tree.specs.declared.key.Key.{Key}
 use Rattle.waiting_table.specs.Table.{TableView}
 use Rattle.waiting_table.specs.Due.{IsFirstDue}

@@ -1,5 +1,4 @@
-use Rattle.std.proofs.Common.{◌≤◌, arith, sym, subst}
-use Rattle.waiting_table.specs.Table.{TableView}
+use Rattle.std.proofs.Common.{arith}
 use Rattle.waiting_table.proofs.Tables.{keeps_opened}
 use Rattle.waiting_table.proofs.table.WaitingTable.open.Goals as goal
 

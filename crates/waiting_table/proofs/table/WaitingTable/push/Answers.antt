@@ -1,5 +1,4 @@
-use Rattle.std.proofs.Common.{◌≡◌, List, arith, refl, sym, ap, ◌∙◌, subst}
-use Rattle.waiting_table.specs.declared.row.Waiting.{Waiting}
+use Rattle.std.proofs.Common.{arith, refl, sym, subst}
 use Rattle.waiting_table.specs.Table.{TableView, IsAbove, IsFree, row_at}
 use Rattle.waiting_table.specs.Kept.{IsInRange}
 use Rattle.waiting_table.proofs.Tables.{is_free, keeps_pushed}

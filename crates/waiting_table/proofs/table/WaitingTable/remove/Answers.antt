@@ -1,9 +1,9 @@
-use Rattle.std.proofs.Common.{◌≡◌, vec_capacity, List, None, arith, sym, ap, ◌∙◌, subst}
+use Rattle.std.proofs.Common.{vec_capacity, List, arith, sym, ap, ◌∙◌, subst}
 use Rattle.waiting_table.specs.declared.row.Waiting.{Waiting}
 use Rattle.waiting_table.specs.Table.{TableView}
 use Rattle.waiting_table.specs.Kept.{KeepsTable}
 use Rattle.waiting_table.proofs.Missing.{without_none}
-use Rattle.waiting_table.proofs.Tables.{found_within, space, keeps_removed}
+use Rattle.waiting_table.proofs.Tables.{found_within, keeps_removed}
 use Rattle.waiting_table.proofs.table.WaitingTable.remove.Goals as goal
 
 pub invariant_of-self : goal.invariant_of-self
