@@ -6,7 +6,7 @@ use Rattle.winner_tree.specs.Order.{key_of, HasKey}
 use Rattle.waiting_table.specs.declared.row.Waiting.{Waiting}
 use Rattle.waiting_table.specs.Table.{TableView, AreRising}
 
--- each place of the room is free or has one row, once
+-- the places of rows and the free ones are in the room, and no place is among them twice
 abbrev pub ArePlaces : List Waiting → List ℕ → ℕ → Type 0
 ArePlaces rows free room = (place : ℕ)
     → count_by (λ w. w.place == place) rows + count_by (λ p. p == place) free ≤ (if nat_lt place room then 1 else 0)
@@ -31,6 +31,8 @@ pub record AreKeys (rows : List Waiting) (keys : List (Option Key)) : Type 0 whe
 abbrev pub IsInRange : Waiting → Type 0
 IsInRange w = (w.ticket < 2 ^ 64) × IfSome w.deadline (λ d. d < 2 ^ 64)
 
+-- The invariant of a table: tickets rise, each place is free or has a row, there is memory for all places to be free, and
+-- the deadlines by place are those of the rows.
 pub record KeepsTable (v : TableView) (free : List ℕ) (capacity : ℕ) (keys : List (Option Key)) : Type 0 where
   pub rising : AreRising v.rows
   pub in_range : All IsInRange v.rows
