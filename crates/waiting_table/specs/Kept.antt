@@ -31,8 +31,8 @@ pub record AreKeys (rows : List Waiting) (keys : List (Option Key)) : Type 0 whe
 abbrev pub IsInRange : Waiting → Type 0
 IsInRange w = (w.ticket < 2 ^ 64) × IfSome w.deadline (λ d. d < 2 ^ 64)
 
--- The invariant of a table: tickets rise, each place is free or has a row, there is memory for all places to be free, and
--- the deadlines by place are those of the rows.
+-- The invariant of a table: tickets rise, each place is free or has a row, there is memory for all places to be free,
+-- and the deadlines by place are those of the rows.
 pub record KeepsTable (v : TableView) (free : List ℕ) (capacity : ℕ) (keys : List (Option Key)) : Type 0 where
   pub rising : AreRising v.rows
   pub in_range : All IsInRange v.rows
