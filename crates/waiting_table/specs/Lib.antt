@@ -1,0 +1,5 @@
+pub mod Table
+pub mod Due
+pub mod Order
+pub mod Kept
+pub mod Laws
