@@ -1,0 +1,5 @@
+pub mod Lists
+pub mod Outcomes
+pub mod Refreshed
+pub mod Deadlines
+pub mod Rest
