@@ -64,7 +64,7 @@ module _ (c : ServiceConfig) (m : ℕ) (v : ServiceView) (o : ServiceOutcome) (w
 
   by_asking : has_late v m ≡ false → AsksWorkers c m v o w → is_ticket ticket (granted_by o) ≡ true → InTime
   by_asking none x is = elim x.asks [
-    | inl takes ↦ by_grant none x.fresh (refreshed c m v x.fresh x.refreshes) takes.worker takes.grants is
+    | inl takes ↦ by_grant none x.fresh (refreshed c m v x.fresh x.refreshes).admitted takes.worker takes.grants is
     | inr rests ↦ absurd (none_granted ticket o (ap granted_by rests.1.0) is)
   ]
 

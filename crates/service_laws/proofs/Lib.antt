@@ -1,5 +1,6 @@
 pub mod Lists
 pub mod Outcomes
 pub mod Refreshed
+pub mod Rolled
 pub mod Deadlines
 pub mod Rest
