@@ -4,3 +4,5 @@ pub mod Refreshed
 pub mod Rolled
 pub mod Deadlines
 pub mod Rest
+pub mod Moves
+pub mod Calls
