@@ -19,18 +19,20 @@ use Rattle.service_model.specs.declared.config.ServiceConfig.{ServiceConfig}
 use Rattle.service_model.specs.declared.outcome.ServiceOutcome.{ServiceOutcome}
 use Rattle.service_model.specs.declared.outcome.ServiceOutcome.TheVariants as told
 use Rattle.service_model.specs.declared.refusal.ServiceRefusal.{ServiceRefusal}
-use Rattle.service_model.specs.View.{Run, Standing, Held, Forwarded, Runs, Ended, Withdrawn, Admitted, SlotView, ServiceView, stands_held, stands_forwarded, is_waiting, is_forwarded, of_slot, has_tenant, slot_at, ticket_on, with_standing, runs_before, IsOnWorker}
+use Rattle.service_model.specs.View.{Run, Standing, Held, Forwarded, Runs, Ended, Withdrawn, Admitted, SlotView, ServiceView, stands_held, stands_forwarded, is_waiting, is_forwarded, of_slot, has_tenant, slot_at, ticket_on, with_standing, with_slot, runs_before, IsOnWorker}
 use Rattle.service_model.specs.Rows.{IsAnswered, RefusedOrElse}
+use Rattle.worker_reserve.specs.Reserve.{with_end}
 use Rattle.service_model.specs.Moments.{at_moment}
+use Rattle.service_model.specs.Idling.{with_end_of}
 use Rattle.service_model.specs.Room.{room_of, waiting_in}
 use Rattle.service_model.specs.Scheduling.{MakesNow, MakesAt}
 use Rattle.service_model.specs.Rolling.{submit_call, MakesWithRoom}
 use Rattle.service_model.specs.Limits.{goes_at_once, Releases}
 use Rattle.service_model.specs.Submission.{has_generation, is_too_many, is_tenant_full, submit_causes, submit_cause, slot_after, with_admitted, IsAdmitted, IsForwardedBy, GoesAtOnce, AnswersSubmit}
 use Rattle.service_model.specs.Reports.{with_named, use_of, NamesUse, AcceptsUse, AnswersUsed}
-use Rattle.service_model.specs.Finishing.{with_ended, cost_at_end, Finishes, AnswersFinish, ReleasesEach}
+use Rattle.service_model.specs.Finishing.{finished, with_ended, cost_at_end, Finishes, AnswersFinish, ReleasesEach}
 use Rattle.service_model.specs.Changes.{IsChangedBy, MakesChange, JoinsSlot, JoinsFirst, joined, joinable, with_count, next_tenant, join_cause, weight_cause, limit_cause, workers_cause, close_cause, AnswersLimit, is_close_due, ClosesScheduler}
-use Rattle.service_model.specs.Deadlines.{has_late, WithdrawsLate}
+use Rattle.service_model.specs.Deadlines.{is_late as late_at, has_late, WithdrawsLate}
 use Rattle.service_model.specs.Granting.{may_grant, Grants, FirstTakes, AsksWorkers, Rests, AnswersNext, with_declining, is_visitor}
 use Rattle.service_model.specs.Answers.{coming, AnswersAt, Answers, moment_of_call}
 use Rattle.service_laws.proofs.Lists.{either}
@@ -222,3 +224,167 @@ module _ (c : ServiceConfig) (R : ServiceView → ServiceView → Type 0) (k : I
       → (A → R v w) → RefusedOrElse why v o w A → R v w
   refused_or None v o w A f x = f x
   refused_or (Some cause) v o w A f x = equal c R k v w x.1
+
+  -- ---- uses and ends
+
+  names_use : (m : ℕ) (v : ServiceView) (worker used : ℕ) (w : ServiceView) → NamesUse c m v worker used w → R v w
+  names_use m v worker used w x =
+      let later : Run = with_named x.run used in
+      let u : ServiceView = with_standing v x.ticket x.q (Runs later) in
+      k.joins v u w
+      (turned c R k v u x.ticket x.q (Runs later) x.runs.admitted
+        (subst (λ s. Becomes s (Runs later)) (sym x.runs.stands) refl) refl refl)
+      (same c R k u w (reported c m u x.run used w x.reports))
+
+  uses : (m : ℕ) (v : ServiceView) (worker cost : ℕ) (o : ServiceOutcome) (w : ServiceView)
+      → AnswersUsed c m v worker cost o w → R v w
+  uses m v worker cost o w =
+      either (is_none (ticket_on v worker)) _ _ (R v w)
+      (λ _ x. equal c R k v w x.1)
+      (λ _ x. either (cost == 0) _ _ (R v w)
+        (λ _ y. equal c R k v w y)
+        (λ _ y. names_use m v worker (use_of cost) w y)
+        x.1)
+
+  releases_each : (m : ℕ) (slots : List ℕ) (v w : ServiceView)
+      → FoldsTo (λ u slot x. Releases c m slot u x) v slots w → R v w
+  releases_each m [] v w x = equal c R k v w (sym x)
+  releases_each m (slot ∷ slots) v w x =
+      k.joins v x.0 w (releases c R k m slot v x.0 x.1) (releases_each m slots x.0 w x.2)
+
+  finishes : (m : ℕ) (v : ServiceView) (worker cost : ℕ) (w : ServiceView) → Finishes c m v worker cost w → R v w
+  finishes m v worker cost w x =
+      let made = made_at v x.run.scheduler _ _ x.made x.makes in
+      let there = ap (λ l. slice_get l x.ticket) made.admitted ∙ x.runs.admitted in
+      let cost_is : ℕ = cost_at_end v x.run cost in
+      let t : ServiceView = record (with_standing x.made x.ticket x.q Ended) {
+        reserve = with_end x.made.reserve (finished m x.run cost_is);
+      } in
+      let ended : R x.made x.ended =
+          onto c R k x.made (with_ended m x.made x.ticket x.q x.run cost_is) x.ended
+          (k.joins x.made t (with_ended m x.made x.ticket x.q x.run cost_is)
+            (turned c R k x.made t x.ticket x.q Ended there (subst (λ s. Becomes s Ended) (sym x.runs.stands) tt) refl refl)
+            (k.stays t (with_end_of t x.q.slot) (end_stays t x.q.slot)))
+          x.ended_is in
+      let released : R v x.released =
+          k.joins v x.made x.released (same c R k v x.made made)
+          (k.joins x.made x.ended x.released ended (releases c R k m x.q.slot x.ended x.released x.releases)) in
+      k.joins v x.released w released
+      (either (runs_before v && not (runs_before x.ended)) _ _ (R x.released w)
+        (λ _ y. releases_each m (range_with_len 0 (length x.released.slots)) x.released w y)
+        (λ _ y. equal c R k x.released w y)
+        x.releases_each)
+
+  -- ---- next
+
+  grants : (m : ℕ) (v : ServiceView) (worker : ℕ) (o : ServiceOutcome) (w : ServiceView) → Grants m v worker o w → R v w
+  grants m v worker o w x =
+      let made = made_now v _ _ x.made x.makes in
+      let there = ap (λ l. slice_get l x.ticket) made.admitted ∙ x.admitted in
+      let run : Run = record {
+        scheduler = v.rolls;
+        request = x.request;
+        worker = worker;
+        taken = m;
+        estimate = x.estimate;
+        is_visitor = is_visitor v x.q.slot m;
+        named = 0;
+      } in
+      let u : ServiceView = record (with_standing x.made x.ticket x.q (Runs run)) { declining = 0 } in
+      k.joins v x.made w
+      (same c R k v x.made made)
+      (onto c R k x.made u w
+        (turned c R k x.made u x.ticket x.q (Runs run) there (subst (λ s. Becomes s (Runs run)) (sym x.stands) tt) refl refl)
+        x.after)
+
+  rests : (m : ℕ) (v : ServiceView) (declining : ℕ) (o : ServiceOutcome) (w : ServiceView) → Rests m v declining o w
+      → R v w
+  rests m v declining o w x =
+      onto c R k v (with_declining v m declining) w
+      (k.stays v (with_declining v m declining) (record { admitted = refl; slots = refl }))
+      x.1
+
+  asks : (m : ℕ) (v : ServiceView) (o : ServiceOutcome) (w : ServiceView) → AsksWorkers c m v o w → R v w
+  asks m v o w x =
+      k.joins v x.fresh w
+      (same c R k v x.fresh (refreshed c m v x.fresh x.refreshes))
+      (elim x.asks [
+        | inl takes ↦ grants m x.fresh takes.worker o w takes.grants
+        | inr all ↦ rests m x.fresh _ o w all.1
+      ])
+
+  is_late_waits : (q : Admitted) (m : ℕ) → late_at m q ≡ true → is_waiting q ≡ true
+  is_late_waits q m e = first_of_both (is_waiting q) _ e
+
+  is_late : (m : ℕ) (v : ServiceView) (o : ServiceOutcome) (w : ServiceView) → WithdrawsLate c m v o w → R v w
+  is_late m v o w x =
+      let u : ServiceView = record v { declining = 0 } in
+      k.joins v u w
+      (k.stays v u (record { admitted = refl; slots = refl }))
+      (withdraws c R k m u x.ticket x.q w x.first.late.admitted (is_late_waits x.q m x.first.late.late) x.withdraws)
+
+  nexts : (m : ℕ) (v : ServiceView) (o : ServiceOutcome) (w : ServiceView) → AnswersNext c m v o w → R v w
+  nexts m v o w x =
+      either (has_late v m) (WithdrawsLate c m v o w) _ (R v w)
+      (λ _ y. is_late m v o w y)
+      (λ _ y. either (may_grant v) (AsksWorkers c m v o w) (Rests m v 0 o w) (R v w)
+        (λ _ z. asks m v o w z)
+        (λ _ z. rests m v 0 o w z)
+        y)
+      x
+
+  -- ---- all calls
+
+  at : (m : ℕ) (v : ServiceView) (asked : ServiceCall) (o : ServiceOutcome) (w : ServiceView)
+      → AnswersAt c m v asked o w → R v w
+  at m v (call.Submit moment slot generation kind declared deadline label) o w x =
+      let q : Admitted = coming m slot kind declared deadline label in
+      comes (submit_cause c v m generation q) m v generation q o w refl x
+  at m v (call.Cancel moment ticket) o w x =
+      cancels c R k m v ticket (slice_get v.admitted ticket) o w refl x
+  at m v (call.Next moment) o w x = nexts m v o w x
+  at m v (call.Used moment worker cost) o w x = uses m v worker cost o w x
+  at m v (call.Finish moment worker cost) o w x =
+      either (is_none (ticket_on v worker)) _ _ (R v w)
+      (λ _ y. equal c R k v w y.1)
+      (λ _ y. finishes m v worker cost w y.1)
+      x
+  at m v (call.Join moment weight) o w x =
+      refused_or (join_cause c v weight) v o w _ (joins_first m v weight (joinable c v) o w) x
+  at m v (call.Weight moment slot weight) o w x =
+      refused_or (weight_cause c v slot weight) v o w _
+      (changes m v _ told.Accepted (λ u. u) o w (λ u. record { admitted = refl; slots = refl }))
+      x
+  at m v (call.Limit moment slot most) o w x =
+      refused_or (limit_cause v slot) v o w (AnswersLimit c m v slot most o w)
+      (λ y.
+        let u : ServiceView = with_slot v slot (record (slot_at v slot) { limit = most }) in
+        k.joins v u w
+        (k.stays v u (record { admitted = refl; slots = length-set v.slots slot _ }))
+        (releases c R k m slot u w y.1))
+      x
+  at m v (call.Workers moment count) o w x =
+      refused_or (workers_cause c v count) v o w _
+      (changes m v _ told.Accepted (with_count count) o w (λ u. record { admitted = refl; slots = refl }))
+      x
+  at m v (call.Close moment) o w x =
+      let u : ServiceView = record v { is_closed = true } in
+      refused_or (close_cause v) v o w _
+      (λ y. onto c R k v u w (k.stays v u (record { admitted = refl; slots = refl })) y.1)
+      x
+
+  closes : (m : ℕ) (v w : ServiceView) → ClosesScheduler c m v w → R v w
+  closes m v w =
+      either (is_close_due v) _ _ (R v w)
+      (λ _ x. same c R k v w (made_now v _ _ w x))
+      (λ _ x. equal c R k v w x)
+
+  -- an answer is moves, one after another
+  pub answers : (v : ServiceView) (asked : ServiceCall) (o : ServiceOutcome) (w : ServiceView) → Answers c v asked o w
+      → R v w
+  answers v asked o w x =
+      let m : ℕ = moment_of_call v asked in
+      let u : ServiceView = at_moment v m in
+      k.joins v u w
+      (k.stays v u (record { admitted = refl; slots = refl }))
+      (k.joins u x.answered w (at m u asked o x.answered x.answers) (closes m x.answered w x.closes))
