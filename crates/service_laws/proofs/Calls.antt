@@ -55,7 +55,7 @@ waits_forwarded (Runs run) e = e
 waits_forwarded Ended e = e
 waits_forwarded Withdrawn e = e
 
-waiting_is_blind : (slot : ℕ) → IsBlind (of_slot slot is_waiting)
+pub waiting_is_blind : (slot : ℕ) → IsBlind (of_slot slot is_waiting)
 waiting_is_blind slot q n e = ap (λ b. (q.slot == slot) && b) (sym (waits_forwarded q.stands e))
 
 room_same : (c : ServiceConfig) (m : ℕ) (v : ServiceView) (asked : Call) (r : Reply) (w : ServiceView)

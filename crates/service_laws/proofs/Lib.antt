@@ -6,3 +6,4 @@ pub mod Deadlines
 pub mod Rest
 pub mod Moves
 pub mod Calls
+pub mod Rooms
