@@ -58,7 +58,7 @@ waits_forwarded Withdrawn e = e
 pub waiting_is_blind : (slot : ℕ) → IsBlind (of_slot slot is_waiting)
 waiting_is_blind slot q n e = ap (λ b. (q.slot == slot) && b) (sym (waits_forwarded q.stands e))
 
-room_same : (c : ServiceConfig) (m : ℕ) (v : ServiceView) (asked : Call) (r : Reply) (w : ServiceView)
+pub room_same : (c : ServiceConfig) (m : ℕ) (v : ServiceView) (asked : Call) (r : Reply) (w : ServiceView)
     → MakesWithRoom c m v asked r w → room_of c w ≡ room_of c v
 room_same c m v asked r w x =
     ap (λ l. record { places = c.scheduler.requests; per_tenant = c.room_per_tenant; waiting = l })
@@ -69,11 +69,11 @@ room_same c m v asked r w x =
 
 -- ---- what a submit that no cause refuses says
 
-abbrev AllFalse : {A : Type 0} → List (Bool × A) → Type 0
+abbrev pub AllFalse : {A : Type 0} → List (Bool × A) → Type 0
 AllFalse [] = Unit {0}
 AllFalse (row ∷ rows) = (row.0 ≡ false) × AllFalse rows
 
-none_holds : {A : Type 0} (rows : List (Bool × A)) → first_true rows ≡ None → AllFalse rows
+pub none_holds : {A : Type 0} (rows : List (Bool × A)) → first_true rows ≡ None → AllFalse rows
 none_holds [] e = tt
 none_holds ((true, a) ∷ rows) e = let k : Some a ≡ None = e in absurd (cc)
 none_holds ((false, a) ∷ rows) e = (refl, none_holds rows e)
@@ -87,11 +87,11 @@ not_false : (b : Bool) → not b ≡ false → b ≡ true
 not_false true e = refl
 not_false false e = sym e
 
-record IsLetIn (c : ServiceConfig) (v : ServiceView) (q : Admitted) : Type 0 where
+pub record IsLetIn (c : ServiceConfig) (v : ServiceView) (q : Admitted) : Type 0 where
   pub has_tenant : has_tenant c.named v q.slot ≡ true
   pub enters : refusal (room_of c v) q.slot ≡ None
 
-let_in : (c : ServiceConfig) (v : ServiceView) (m generation : ℕ) (q : Admitted)
+pub let_in : (c : ServiceConfig) (v : ServiceView) (m generation : ℕ) (q : Admitted)
     → submit_cause c v m generation q ≡ None → IsLetIn c v q
 let_in c v m generation q e =
     let none = none_holds (submit_causes c v m generation q) e in
@@ -102,38 +102,39 @@ let_in c v m generation q e =
       enters = not_refused (refusal (room_of c v) q.slot) room_lets.0 room_lets.1.0;
     }
 
+-- it is admitted, and stands here
+pub admits_of : (c : ServiceConfig) (v : ServiceView) (m : ℕ) (q : Admitted) (next : Standing) → IsLetIn c v q
+    → is_waiting (record q { stands = next }) ≡ true → Admits c v (with_admitted v m (record q { stands = next }))
+admits_of c v m q next known waits = record {
+  q = record q { stands = next };
+  has_tenant = known.has_tenant;
+  enters = known.enters;
+  waits = waits;
+  admitted = refl;
+  slots = length-set v.slots q.slot (slot_after v q.slot m);
+}
+
+-- a request that was let in before the scheduler made the call
+pub let_in_after : (c : ServiceConfig) (m : ℕ) (v : ServiceView) (asked : Call) (r : Reply) (u : ServiceView)
+    (q : Admitted) → MakesWithRoom c m v asked r u → IsLetIn c v q → IsLetIn c u q
+let_in_after c m v asked r u q x known = record {
+  has_tenant =
+    ap (λ s. nat_lt q.slot c.named || nat_lt 0 (slice_index_or s q.slot none).generation)
+    (with_room_slots c m v asked r u x)
+    ∙ known.has_tenant;
+  enters = ap (λ r. refusal r q.slot) (room_same c m v asked r u x) ∙ known.enters;
+}
+  where
+    none : SlotView
+    none = record { generation = 0; limit = 0; began_to_wait = None }
 module _ (c : ServiceConfig) (R : ServiceView → ServiceView → Type 0) (k : IsClosed c R) where
   -- ---- submit
 
   is_admitted : (v : ServiceView) (m : ℕ) (q : Admitted) (next : Standing) (o : ServiceOutcome) (w : ServiceView)
       → IsLetIn c v q → is_waiting (record q { stands = next }) ≡ true → IsAdmitted v m q next o w → R v w
   is_admitted v m q next o w known waits x =
-      let p : Admitted = record q { stands = next } in
-      let u : ServiceView = with_admitted v m p in
-      onto c R k v u w
-      (k.admits v u (record {
-        q = p;
-        has_tenant = known.has_tenant;
-        enters = known.enters;
-        waits = waits;
-        admitted = refl;
-        slots = length-set v.slots q.slot (slot_after v q.slot m);
-      }))
-      x.1
-
-  -- a service that was let in before the scheduler made the call
-  let_in_after : (m : ℕ) (v : ServiceView) (asked : Call) (r : Reply) (u : ServiceView) (q : Admitted)
-      → MakesWithRoom c m v asked r u → IsLetIn c v q → IsLetIn c u q
-  let_in_after m v asked r u q x known = record {
-    has_tenant =
-      ap (λ s. nat_lt q.slot c.named || nat_lt 0 (slice_index_or s q.slot none).generation)
-      (with_room_slots c m v asked r u x)
-      ∙ known.has_tenant;
-    enters = ap (λ r. refusal r q.slot) (room_same c m v asked r u x) ∙ known.enters;
-  }
-    where
-      none : SlotView
-      none = record { generation = 0; limit = 0; began_to_wait = None }
+      let u : ServiceView = with_admitted v m (record q { stands = next }) in
+      onto c R k v u w (k.admits v u (admits_of c v m q next known waits)) x.1
 
   by_reply : (r : Reply) (v : ServiceView) (m : ℕ) (q : Admitted) (o : ServiceOutcome) (w : ServiceView)
       → IsLetIn c v q → IsForwardedBy r v m q o w → R v w
@@ -165,7 +166,7 @@ module _ (c : ServiceConfig) (R : ServiceView → ServiceView → Type 0) (k : I
       (λ _ x. k.joins v x.made w
         (with_room c R k m v (submit_call c m q) x.reply x.made x.makes)
         (by_reply x.reply x.made m q o w
-          (let_in_after m v (submit_call c m q) x.reply x.made q x.makes known) x.answered))
+          (let_in_after c m v (submit_call c m q) x.reply x.made q x.makes known) x.answered))
       (λ _ x. is_admitted v m q Held o w known refl x)
 
   comes : (why : Option ServiceRefusal) (m : ℕ) (v : ServiceView) (generation : ℕ) (q : Admitted)

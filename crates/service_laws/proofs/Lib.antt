@@ -7,3 +7,5 @@ pub mod Rest
 pub mod Moves
 pub mod Calls
 pub mod Rooms
+pub mod RoomLaws
+pub mod Admissions

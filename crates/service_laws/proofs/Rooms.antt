@@ -5,8 +5,8 @@ use Rattle.std.specs.List.{count_by}
 use Rattle.std.proofs.lemmas.Bool.{cases_eq, eq-eqb, cases_lt}
 use Rattle.std.proofs.lemmas.Bool.Decides.{nat_tests, eqb_tells}
 use Rattle.std.proofs.lemmas.List.{length-set, get_or-set_same, get_or-set_other, get_or_past, ext_get_or}
-use Rattle.std.proofs.lemmas.List.Elements.{All-head, All-tail, All-cons, All-set, All-append, All-get_or}
-use Rattle.std.proofs.lemmas.List.Sums.{sum_by-set}
+use Rattle.std.proofs.lemmas.List.Elements.{All-nil, All-head, All-tail, All-cons, All-set, All-append, All-get_or}
+use Rattle.std.proofs.lemmas.List.Sums.{sum_by-set, sum_by-append, sum_by-cons}
 use Rattle.std.proofs.lemmas.Option.{slice_get_within, get_or_from_slice_get}
 use Rattle.fq_model.specs.Sums.{list_below}
 use Rattle.fluid_reference.proofs.Lists.{list_same, list_length, list_at}
@@ -66,7 +66,7 @@ module _ (c : ServiceConfig) where
       room_by v w slots (list_below (waiting_in v) (length v.slots))
       (list_same (waiting_in w) (waiting_in v) (length v.slots) (λ slot _. same slot))
 
-  size_is : (v : ServiceView) → length (room_of c v).waiting ≡ length v.slots
+  pub size_is : (v : ServiceView) → length (room_of c v).waiting ≡ length v.slots
   size_is v = list_length (waiting_in v) (length v.slots)
 
   waiting_at : (v : ServiceView) (slot : ℕ) → slot < length v.slots → waiting_of (room_of c v) slot ≡ waiting_in v slot
@@ -274,3 +274,63 @@ module _ (c : ServiceConfig) (named : c.named ≤ length c.scheduler.weights) wh
     | inl same ↦ same_room v w x.slots (room_same c v w x.slots (turned_same v w x same)) (known_after v w x)
     | inr gone ↦ leaves v w x gone.0 gone.1
   ]
+
+  -- ---- an admission
+
+  count_push : (test : Admitted → Bool) (qs : List Admitted) (q : Admitted)
+      → count_by test (qs ++ q ∷ []) ≡ count_by test qs + one test q
+  count_push test qs q =
+      let all = sum_by-append (λ (x : Admitted). as_one (test x)) qs (q ∷ []) in
+      omega (arith, all, sum_by-cons (λ (x : Admitted). as_one (test x)) q [])
+
+  -- a slot that has a tenant is there
+  pub slot_is_there : (v : ServiceView) (slot : ℕ) → length v.slots ≡ length c.scheduler.weights
+      → has_tenant c.named v slot ≡ true → slot < length v.slots
+  slot_is_there v slot slots e = elim (cases_lt slot (length v.slots)) [
+    | inl l ↦ l
+    | inr past ↦
+      let none = get_or_past v.slots slot (record { generation = 0; limit = 0; began_to_wait = None }) past in
+      let generation : (slot_at v slot).generation ≡ 0 = ap (λ (s : SlotView). s.generation) none in
+      let never : has_tenant c.named v slot ≡ false =
+          ap (λ g. nat_lt slot c.named || nat_lt 0 g) generation ∙ unnamed slot (omega (arith, past, slots, named)) in
+      absurd (not_both (has_tenant c.named v slot) e never)
+  ]
+    where
+      unnamed : (n : ℕ) → c.named ≤ n → nat_lt n c.named || nat_lt 0 0 ≡ false
+      unnamed n high = grind (arith, nat_tests)
+
+  module _ (v w : ServiceView) (x : Admits c v w) (slots : length v.slots ≡ length c.scheduler.weights) where
+    there : x.q.slot < length v.slots
+    there = slot_is_there v x.q.slot slots x.has_tenant
+
+    pushed : (slot : ℕ) → waiting_in w slot ≡ waiting_in v slot + one (of_slot slot is_waiting) x.q
+    pushed slot =
+        ap (count_by (of_slot slot is_waiting)) x.admitted ∙ count_push (of_slot slot is_waiting) v.admitted x.q
+
+    pub room_entered : room_of c w ≡ entered (room_of c v) x.q.slot
+    room_entered =
+        room_with c v w x.q.slot (waiting_of (room_of c v) x.q.slot + 1) there x.slots
+        (omega (arith, pushed x.q.slot, own_one x.q, ap as_one x.waits, waiting_at c v x.q.slot there))
+        (λ other ne. omega (arith, pushed other, other_one x.q other ne))
+
+  admits : (v w : ServiceView) → Admits c v w → KeepsRoom v w
+  admits v w x = record {
+    slots = x.slots;
+    room = λ h.
+      let within = there v w x h.slots in
+      record {
+        slots = x.slots ∙ h.slots;
+        known =
+          subst (λ n. All (IsBelow n) w.admitted) (sym x.slots)
+          (subst (All (IsBelow (length v.slots))) (sym x.admitted)
+            (All-append (IsBelow (length v.slots)) v.admitted (x.q ∷ []) h.known
+              (All-cons (IsBelow (length v.slots)) x.q [] within (All-nil (IsBelow (length v.slots))))));
+        steps = Enters x.q.slot ∷ h.steps;
+        run = (h.run, subst (λ r. rooms.MayStep r (Enters x.q.slot)) (sym h.room)
+          (omega (arith, within, size_is c v), x.enters));
+        room = ap (λ r. entered r x.q.slot) h.room ∙ sym (room_entered v w x h.slots);
+      };
+  }
+
+  pub is_closed : IsClosed c KeepsRoom
+  is_closed = record { joins = joins; stays = stays; renumbers = renumbers; turns = turns; admits = admits }
