@@ -26,7 +26,7 @@ use Rattle.service_model.specs.Limits.{goes_at_once}
 use Rattle.service_model.specs.Submission.{is_before, moment_of_deadline, has_generation, is_too_many, is_tenant_full, submit_causes, submit_cause, ticket_after, IsAdmitted, IsForwardedBy, GoesAtOnce, AnswersSubmit}
 use Rattle.service_model.specs.Answers.{coming, AnswersAt, moment_of_call}
 use Rattle.service_model.specs.Runs.{Step, IsRun, service_after, submitted_slot, moment_of_step}
-use Rattle.service_model.specs.Laws.{IsRoomRefusal, IsSubmitFor, OwnPlacesAreKept, FloodsAreHalved}
+use Rattle.service_model.specs.Laws.{IsRoomRefusal, IsSubmitFor, OwnPlacesAreKept}
 use Rattle.service_laws.proofs.Lists.{either, not_both, some_same}
 use Rattle.service_laws.proofs.Moves.{first_of_both}
 use Rattle.service_laws.proofs.Rooms.{HasRoom, size_is, slot_is_there}
@@ -158,12 +158,12 @@ module _ (c : ServiceConfig) (sound : service_fault c ≡ None) (v : ServiceView
   by_call m (call.Close moment) o w slot shared is own x = let k : None ≡ Some slot = is in absurd (cc)
 
 -- the room before the newest step
-room_before : (c : ServiceConfig) (step : Step) (older : List Step) → service_fault c ≡ None → IsRun c (step ∷ older)
+pub room_before : (c : ServiceConfig) (step : Step) (older : List Step) → service_fault c ≡ None → IsRun c (step ∷ older)
     → HasRoom c step.before
 room_before c step older sound run = subst (HasRoom c) (sym run.1) (has_room c sound older run.0)
 
 -- a service has the same room at a later moment
-room_at : (c : ServiceConfig) (v : ServiceView) (m : ℕ) → HasRoom c v → HasRoom c (at_moment v m)
+pub room_at : (c : ServiceConfig) (v : ServiceView) (m : ℕ) → HasRoom c v → HasRoom c (at_moment v m)
 room_at c v m h = record { slots = h.slots; known = h.known; steps = h.steps; run = h.run; room = h.room }
 
 pub own_places_are_kept : OwnPlacesAreKept

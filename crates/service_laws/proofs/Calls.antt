@@ -103,7 +103,7 @@ let_in c v m generation q e =
     }
 
 -- it is admitted, and stands here
-pub admits_of : (c : ServiceConfig) (v : ServiceView) (m : ℕ) (q : Admitted) (next : Standing) → IsLetIn c v q
+abbrev pub admits_of : (c : ServiceConfig) (v : ServiceView) (m : ℕ) (q : Admitted) (next : Standing) → IsLetIn c v q
     → is_waiting (record q { stands = next }) ≡ true → Admits c v (with_admitted v m (record q { stands = next }))
 admits_of c v m q next known waits = record {
   q = record q { stands = next };

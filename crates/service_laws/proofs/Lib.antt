@@ -9,3 +9,4 @@ pub mod Calls
 pub mod Rooms
 pub mod RoomLaws
 pub mod Admissions
+pub mod Floods

@@ -60,7 +60,7 @@ module _ (c : ServiceConfig) where
       ap (λ x. record { places = c.scheduler.requests; per_tenant = c.room_per_tenant; waiting = x })
       (ap (list_below (waiting_in w)) slots ∙ e)
 
-  room_same : (v w : ServiceView) → length w.slots ≡ length v.slots
+  pub room_same : (v w : ServiceView) → length w.slots ≡ length v.slots
       → ((slot : ℕ) → waiting_in w slot ≡ waiting_in v slot) → room_of c w ≡ room_of c v
   room_same v w slots same =
       room_by v w slots (list_below (waiting_in v) (length v.slots))
