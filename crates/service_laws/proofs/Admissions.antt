@@ -1,10 +1,10 @@
 -- Who is refused by the room, and what a flood leaves to others.
-use Rattle.std.proofs.Common.{ℕ, ◌≡◌, ◌∙◌, ◌+◌, ◌<◌, ◌≤◌, ◌⊎◌, Bool, true, false, List, [], ◌∷◌, Option, Some, None, refl, sym, ap, subst, length, arith, inl, inr}
-use Rattle.std.specs.Prelude.{◌&&◌, ◌||◌, ◌==◌, not, nat_lt, nat_le, MatchBool}
+use Rattle.std.proofs.Common.{ℕ, ◌≡◌, ◌<◌, Bool, true, false, List, [], ◌∷◌, Option, Some, None, refl, sym, ap, subst, length, arith, inl, inr}
+use Rattle.std.specs.Prelude.{◌||◌, ◌==◌, not, nat_lt, nat_le}
 use Rattle.vt_fixed.specs.declared.limits.TheConstants.{GREATEST_COST}
 use Rattle.service_model.specs.declared.limits.TheConstants.{MOST_TICKETS}
 use Rattle.waiting_room.specs.declared.refusal.Refusal.{Refusal}
-use Rattle.waiting_room.specs.Room.{RoomView, own_places, waiting_of, refusal, entered, shared_of, shared_free}
+use Rattle.waiting_room.specs.Room.{own_places, waiting_of, refusal}
 use Rattle.waiting_room.proofs.Always as always
 use Rattle.fq_model.specs.declared.event.Cause.TheVariants as cause
 use Rattle.fq_model.specs.declared.event.Reply.{Reply}
@@ -17,15 +17,15 @@ use Rattle.service_model.specs.declared.outcome.ServiceOutcome.{ServiceOutcome}
 use Rattle.service_model.specs.declared.outcome.ServiceOutcome.TheVariants as told
 use Rattle.service_model.specs.declared.refusal.ServiceRefusal.{ServiceRefusal}
 use Rattle.service_model.specs.declared.refusal.ServiceRefusal.TheVariants as cause_of
-use Rattle.service_model.specs.View.{Standing, Held, Forwarded, Admitted, ServiceView, is_waiting, has_tenant}
+use Rattle.service_model.specs.View.{Held, Admitted, ServiceView, has_tenant}
 use Rattle.service_model.specs.Opening.{service_fault}
 use Rattle.service_model.specs.Moments.{at_moment}
 use Rattle.service_model.specs.Room.{room_of}
-use Rattle.service_model.specs.Rows.{IsAnswered, RefusedOrElse}
+use Rattle.service_model.specs.Rows.{RefusedOrElse}
 use Rattle.service_model.specs.Limits.{goes_at_once}
-use Rattle.service_model.specs.Submission.{is_before, moment_of_deadline, has_generation, is_too_many, is_tenant_full, submit_causes, submit_cause, ticket_after, IsAdmitted, IsForwardedBy, GoesAtOnce, AnswersSubmit}
-use Rattle.service_model.specs.Answers.{coming, AnswersAt, moment_of_call}
-use Rattle.service_model.specs.Runs.{Step, IsRun, service_after, submitted_slot, moment_of_step}
+use Rattle.service_model.specs.Submission.{is_before, moment_of_deadline, has_generation, is_too_many, is_tenant_full, submit_cause, IsAdmitted, IsForwardedBy, GoesAtOnce, AnswersSubmit}
+use Rattle.service_model.specs.Answers.{coming, AnswersAt}
+use Rattle.service_model.specs.Runs.{Step, IsRun, moment_of_step}
 use Rattle.service_model.specs.Laws.{IsRoomRefusal, IsSubmitFor, OwnPlacesAreKept}
 use Rattle.service_laws.proofs.Lists.{either, not_both, some_same}
 use Rattle.service_laws.proofs.Moves.{first_of_both}
@@ -54,9 +54,9 @@ not_by_room o else (inr e) = subst IsElse e else
 cause_is_else : (b1 b2 b3 b4 b5 b6 b7 b8 : Bool) (slot kind declared late : ℕ) (cause : ServiceRefusal)
     → (b2 ≡ false → (b6 ≡ false) × (b7 ≡ false))
     → first_true
-      ((b1, cause_of.Closed) ∷ (b2, cause_of.Tenant slot) ∷ (b3, cause_of.Kind kind) ∷ (b4, cause_of.Cost declared)
-      ∷ (b5, cause_of.Late late) ∷ (b6, cause_of.TooManyWait) ∷ (b7, cause_of.TenantFull) ∷ (b8, cause_of.Full) ∷ [])
-      ≡ Some cause
+    ((b1, cause_of.Closed) ∷ (b2, cause_of.Tenant slot) ∷ (b3, cause_of.Kind kind) ∷ (b4, cause_of.Cost declared)
+    ∷ (b5, cause_of.Late late) ∷ (b6, cause_of.TooManyWait) ∷ (b7, cause_of.TenantFull) ∷ (b8, cause_of.Full) ∷ [])
+    ≡ Some cause
     → IsElse (told.Refused cause)
 cause_is_else true b2 b3 b4 b5 b6 b7 b8 slot kind declared late cause h e = subst (λ r. IsElse (told.Refused r)) (some_same cause_of.Closed cause e) tt
 cause_is_else false true b3 b4 b5 b6 b7 b8 slot kind declared late cause h e = subst (λ r. IsElse (told.Refused r)) (some_same (cause_of.Tenant slot) cause e) tt
@@ -132,12 +132,12 @@ module _ (c : ServiceConfig) (sound : service_fault c ≡ None) (v : ServiceView
   by_causes (Some cause) m generation q o w shared own e x =
       subst IsElse (sym x.0)
       (cause_is_else v.is_closed (not (has_generation c v q.slot generation)) (nat_le c.scheduler.kinds q.kind)
-        ((q.declared == 0) || nat_lt GREATEST_COST q.declared) (is_before q.deadline m)
-        (is_too_many (refusal (room_of c v) q.slot)) (is_tenant_full (refusal (room_of c v) q.slot))
-        (nat_le MOST_TICKETS (length v.admitted)) q.slot q.kind q.declared (moment_of_deadline q.deadline) cause
-        (λ known. false_if (refusal (room_of c v) q.slot)
-          (is_let_in q.slot shared (of_generation q.slot generation known) own))
-        e)
+      ((q.declared == 0) || nat_lt GREATEST_COST q.declared) (is_before q.deadline m)
+      (is_too_many (refusal (room_of c v) q.slot)) (is_tenant_full (refusal (room_of c v) q.slot))
+      (nat_le MOST_TICKETS (length v.admitted)) q.slot q.kind q.declared (moment_of_deadline q.deadline) cause
+      (λ known. false_if (refusal (room_of c v) q.slot)
+      (is_let_in q.slot shared (of_generation q.slot generation known) own))
+      e)
 
   pub by_call : (m : ℕ) (asked : ServiceCall) (o : ServiceOutcome) (w : ServiceView) (slot : ℕ)
       → c.room_per_tenant ≡ 0 → IsSubmitFor slot asked → waiting_of (room_of c v) slot < own_places (room_of c v)
@@ -172,4 +172,4 @@ own_places_are_kept c step older sound run slot shared is own =
     let v : ServiceView = at_moment step.before m in
     not_by_room step.outcome
     (by_call c sound v (room_at c step.before m (room_before c step older sound run)) m step.asked step.outcome
-      run.2.answered slot shared is own run.2.answers)
+    run.2.answered slot shared is own run.2.answers)

@@ -1,6 +1,6 @@
 -- Each call is answered by moves.
-use Rattle.std.proofs.Common.{ℕ, zero, suc, ◌≡◌, ◌∙◌, ◌-◌, ◌+◌, ◌<◌, ◌≤◌, Bool, true, false, List, [], ◌∷◌, ◌++◌, Option, Some, None, refl, sym, ap, subst, length, inl, inr}
-use Rattle.std.specs.Prelude.{◌==◌, ◌&&◌, ◌||◌, not, slice_get, slice_set, slice_index_or, nat_lt, nat_le, is_none, MatchBool}
+use Rattle.std.proofs.Common.{ℕ, zero, suc, ◌≡◌, ◌∙◌, Bool, true, false, List, [], ◌∷◌, ◌++◌, Option, Some, None, refl, sym, ap, subst, length, inl, inr}
+use Rattle.std.specs.Prelude.{◌==◌, ◌&&◌, ◌||◌, not, slice_get, slice_index_or, nat_lt, is_none}
 use Rattle.std.specs.List.{FoldsTo, range_with_len}
 use Rattle.std.proofs.lemmas.List.{length-set}
 use Rattle.waiting_room.specs.declared.refusal.Refusal.{Refusal}
@@ -19,26 +19,25 @@ use Rattle.service_model.specs.declared.config.ServiceConfig.{ServiceConfig}
 use Rattle.service_model.specs.declared.outcome.ServiceOutcome.{ServiceOutcome}
 use Rattle.service_model.specs.declared.outcome.ServiceOutcome.TheVariants as told
 use Rattle.service_model.specs.declared.refusal.ServiceRefusal.{ServiceRefusal}
-use Rattle.service_model.specs.View.{Run, Standing, Held, Forwarded, Runs, Ended, Withdrawn, Admitted, SlotView, ServiceView, stands_held, stands_forwarded, is_waiting, is_forwarded, of_slot, has_tenant, slot_at, ticket_on, with_standing, with_slot, runs_before, IsOnWorker}
-use Rattle.service_model.specs.Rows.{IsAnswered, RefusedOrElse}
+use Rattle.service_model.specs.View.{Run, Standing, Held, Forwarded, Runs, Ended, Withdrawn, Admitted, SlotView, ServiceView, stands_held, stands_forwarded, is_waiting, of_slot, has_tenant, slot_at, ticket_on, with_standing, with_slot, runs_before}
+use Rattle.service_model.specs.Rows.{RefusedOrElse}
 use Rattle.worker_reserve.specs.Reserve.{with_end}
 use Rattle.service_model.specs.Moments.{at_moment}
 use Rattle.service_model.specs.Idling.{with_end_of}
 use Rattle.service_model.specs.Room.{room_of, waiting_in}
-use Rattle.service_model.specs.Scheduling.{MakesNow, MakesAt}
 use Rattle.service_model.specs.Rolling.{submit_call, MakesWithRoom}
 use Rattle.service_model.specs.Limits.{goes_at_once, Releases}
 use Rattle.service_model.specs.Submission.{has_generation, is_too_many, is_tenant_full, submit_causes, submit_cause, slot_after, with_admitted, IsAdmitted, IsForwardedBy, GoesAtOnce, AnswersSubmit}
-use Rattle.service_model.specs.Reports.{with_named, use_of, NamesUse, AcceptsUse, AnswersUsed}
-use Rattle.service_model.specs.Finishing.{finished, with_ended, cost_at_end, Finishes, AnswersFinish, ReleasesEach}
-use Rattle.service_model.specs.Changes.{IsChangedBy, MakesChange, JoinsSlot, JoinsFirst, joined, joinable, with_count, next_tenant, join_cause, weight_cause, limit_cause, workers_cause, close_cause, AnswersLimit, is_close_due, ClosesScheduler}
+use Rattle.service_model.specs.Reports.{with_named, use_of, NamesUse, AnswersUsed}
+use Rattle.service_model.specs.Finishing.{finished, with_ended, cost_at_end, Finishes}
+use Rattle.service_model.specs.Changes.{IsChangedBy, MakesChange, JoinsFirst, joined, joinable, with_count, next_tenant, join_cause, weight_cause, limit_cause, workers_cause, close_cause, AnswersLimit, is_close_due, ClosesScheduler}
 use Rattle.service_model.specs.Deadlines.{is_late as late_at, has_late, WithdrawsLate}
-use Rattle.service_model.specs.Granting.{may_grant, Grants, FirstTakes, AsksWorkers, Rests, AnswersNext, with_declining, is_visitor}
+use Rattle.service_model.specs.Granting.{may_grant, Grants, AsksWorkers, Rests, AnswersNext, with_declining, is_visitor}
 use Rattle.service_model.specs.Answers.{coming, AnswersAt, Answers, moment_of_call}
 use Rattle.service_laws.proofs.Lists.{either}
-use Rattle.service_laws.proofs.Refreshed.{SameRequests, itself, same_as, made_now, made_at, reported, refreshed}
+use Rattle.service_laws.proofs.Refreshed.{made_now, made_at, reported, refreshed}
 use Rattle.service_laws.proofs.Rolled.{IsBlind, with_room_slots, with_room_count}
-use Rattle.service_laws.proofs.Moves.{Becomes, Stays, Turns, Admits, IsClosed, end_stays, first_of_both, same, equal, onto, with_room, turned, releases, withdraws, cancels}
+use Rattle.service_laws.proofs.Moves.{Becomes, Stays, Admits, IsClosed, end_stays, first_of_both, same, equal, onto, with_room, turned, releases, withdraws, cancels}
 
 -- ---- the room of a service whose requests got other numbers
 
@@ -64,8 +63,8 @@ room_same c m v asked r w x =
     ap (λ l. record { places = c.scheduler.requests; per_tenant = c.room_per_tenant; waiting = l })
     (ap (λ s. list_below (waiting_in w) (length s)) (with_room_slots c m v asked r w x)
     ∙ list_below_same (waiting_in w) (waiting_in v)
-      (λ slot. with_room_count (of_slot slot is_waiting) (waiting_is_blind slot) c m v asked r w x)
-      (length v.slots))
+    (λ slot. with_room_count (of_slot slot is_waiting) (waiting_is_blind slot) c m v asked r w x)
+    (length v.slots))
 
 -- ---- what a submit that no cause refuses says
 
@@ -98,7 +97,7 @@ let_in c v m generation q e =
     let room_lets = none.1.1.1.1.1 in
     record {
       has_tenant =
-        first_of_both (has_tenant c.named v q.slot) _ (not_false (has_generation c v q.slot generation) none.1.0);
+          first_of_both (has_tenant c.named v q.slot) _ (not_false (has_generation c v q.slot generation) none.1.0);
       enters = not_refused (refusal (room_of c v) q.slot) room_lets.0 room_lets.1.0;
     }
 
@@ -119,14 +118,15 @@ pub let_in_after : (c : ServiceConfig) (m : ℕ) (v : ServiceView) (asked : Call
     (q : Admitted) → MakesWithRoom c m v asked r u → IsLetIn c v q → IsLetIn c u q
 let_in_after c m v asked r u q x known = record {
   has_tenant =
-    ap (λ s. nat_lt q.slot c.named || nat_lt 0 (slice_index_or s q.slot none).generation)
-    (with_room_slots c m v asked r u x)
-    ∙ known.has_tenant;
+      ap (λ s. nat_lt q.slot c.named || nat_lt 0 (slice_index_or s q.slot none).generation)
+      (with_room_slots c m v asked r u x)
+      ∙ known.has_tenant;
   enters = ap (λ r. refusal r q.slot) (room_same c m v asked r u x) ∙ known.enters;
 }
   where
     none : SlotView
     none = record { generation = 0; limit = 0; began_to_wait = None }
+
 module _ (c : ServiceConfig) (R : ServiceView → ServiceView → Type 0) (k : IsClosed c R) where
   -- ---- submit
 
@@ -164,9 +164,9 @@ module _ (c : ServiceConfig) (R : ServiceView → ServiceView → Type 0) (k : I
   submits m v q o w known =
       either (goes_at_once c v q.slot q.kind) (GoesAtOnce c m v q o w) (IsAdmitted v m q Held o w) (R v w)
       (λ _ x. k.joins v x.made w
-        (with_room c R k m v (submit_call c m q) x.reply x.made x.makes)
-        (by_reply x.reply x.made m q o w
-          (let_in_after c m v (submit_call c m q) x.reply x.made q x.makes known) x.answered))
+      (with_room c R k m v (submit_call c m q) x.reply x.made x.makes)
+      (by_reply x.reply x.made m q o w
+      (let_in_after c m v (submit_call c m q) x.reply x.made q x.makes known) x.answered))
       (λ _ x. is_admitted v m q Held o w known refl x)
 
   comes : (why : Option ServiceRefusal) (m : ℕ) (v : ServiceView) (generation : ℕ) (q : Admitted)
@@ -234,7 +234,7 @@ module _ (c : ServiceConfig) (R : ServiceView → ServiceView → Type 0) (k : I
       let u : ServiceView = with_standing v x.ticket x.q (Runs later) in
       k.joins v u w
       (turned c R k v u x.ticket x.q (Runs later) x.runs.admitted
-        (subst (λ s. Becomes s (Runs later)) (sym x.runs.stands) refl) refl refl)
+      (subst (λ s. Becomes s (Runs later)) (sym x.runs.stands) refl) refl refl)
       (same c R k u w (reported c m u x.run used w x.reports))
 
   uses : (m : ℕ) (v : ServiceView) (worker cost : ℕ) (o : ServiceOutcome) (w : ServiceView)
@@ -243,9 +243,9 @@ module _ (c : ServiceConfig) (R : ServiceView → ServiceView → Type 0) (k : I
       either (is_none (ticket_on v worker)) _ _ (R v w)
       (λ _ x. equal c R k v w x.1)
       (λ _ x. either (cost == 0) _ _ (R v w)
-        (λ _ y. equal c R k v w y)
-        (λ _ y. names_use m v worker (use_of cost) w y)
-        x.1)
+      (λ _ y. equal c R k v w y)
+      (λ _ y. names_use m v worker (use_of cost) w y)
+      x.1)
 
   releases_each : (m : ℕ) (slots : List ℕ) (v w : ServiceView)
       → FoldsTo (λ u slot x. Releases c m slot u x) v slots w → R v w
@@ -262,19 +262,19 @@ module _ (c : ServiceConfig) (R : ServiceView → ServiceView → Type 0) (k : I
         reserve = with_end x.made.reserve (finished m x.run cost_is);
       } in
       let ended : R x.made x.ended =
-          onto c R k x.made (with_ended m x.made x.ticket x.q x.run cost_is) x.ended
-          (k.joins x.made t (with_ended m x.made x.ticket x.q x.run cost_is)
-            (turned c R k x.made t x.ticket x.q Ended there (subst (λ s. Becomes s Ended) (sym x.runs.stands) tt) refl refl)
-            (k.stays t (with_end_of t x.q.slot) (end_stays t x.q.slot)))
-          x.ended_is in
+      onto c R k x.made (with_ended m x.made x.ticket x.q x.run cost_is) x.ended
+      (k.joins x.made t (with_ended m x.made x.ticket x.q x.run cost_is)
+      (turned c R k x.made t x.ticket x.q Ended there (subst (λ s. Becomes s Ended) (sym x.runs.stands) tt) refl refl)
+      (k.stays t (with_end_of t x.q.slot) (end_stays t x.q.slot)))
+      x.ended_is in
       let released : R v x.released =
-          k.joins v x.made x.released (same c R k v x.made made)
-          (k.joins x.made x.ended x.released ended (releases c R k m x.q.slot x.ended x.released x.releases)) in
+      k.joins v x.made x.released (same c R k v x.made made)
+      (k.joins x.made x.ended x.released ended (releases c R k m x.q.slot x.ended x.released x.releases)) in
       k.joins v x.released w released
       (either (runs_before v && not (runs_before x.ended)) _ _ (R x.released w)
-        (λ _ y. releases_each m (range_with_len 0 (length x.released.slots)) x.released w y)
-        (λ _ y. equal c R k x.released w y)
-        x.releases_each)
+      (λ _ y. releases_each m (range_with_len 0 (length x.released.slots)) x.released w y)
+      (λ _ y. equal c R k x.released w y)
+      x.releases_each)
 
   -- ---- next
 
@@ -295,8 +295,8 @@ module _ (c : ServiceConfig) (R : ServiceView → ServiceView → Type 0) (k : I
       k.joins v x.made w
       (same c R k v x.made made)
       (onto c R k x.made u w
-        (turned c R k x.made u x.ticket x.q (Runs run) there (subst (λ s. Becomes s (Runs run)) (sym x.stands) tt) refl refl)
-        x.after)
+      (turned c R k x.made u x.ticket x.q (Runs run) there (subst (λ s. Becomes s (Runs run)) (sym x.stands) tt) refl refl)
+      x.after)
 
   rests : (m : ℕ) (v : ServiceView) (declining : ℕ) (o : ServiceOutcome) (w : ServiceView) → Rests m v declining o w
       → R v w
@@ -329,9 +329,9 @@ module _ (c : ServiceConfig) (R : ServiceView → ServiceView → Type 0) (k : I
       either (has_late v m) (WithdrawsLate c m v o w) _ (R v w)
       (λ _ y. is_late m v o w y)
       (λ _ y. either (may_grant v) (AsksWorkers c m v o w) (Rests m v 0 o w) (R v w)
-        (λ _ z. asks m v o w z)
-        (λ _ z. rests m v 0 o w z)
-        y)
+      (λ _ z. asks m v o w z)
+      (λ _ z. rests m v 0 o w z)
+      y)
       x
 
   -- ---- all calls
@@ -359,10 +359,10 @@ module _ (c : ServiceConfig) (R : ServiceView → ServiceView → Type 0) (k : I
   at m v (call.Limit moment slot most) o w x =
       refused_or (limit_cause v slot) v o w (AnswersLimit c m v slot most o w)
       (λ y.
-        let u : ServiceView = with_slot v slot (record (slot_at v slot) { limit = most }) in
-        k.joins v u w
-        (k.stays v u (record { admitted = refl; slots = length-set v.slots slot _ }))
-        (releases c R k m slot u w y.1))
+      let u : ServiceView = with_slot v slot (record (slot_at v slot) { limit = most }) in
+      k.joins v u w
+      (k.stays v u (record { admitted = refl; slots = length-set v.slots slot _ }))
+      (releases c R k m slot u w y.1))
       x
   at m v (call.Workers moment count) o w x =
       refused_or (workers_cause c v count) v o w _

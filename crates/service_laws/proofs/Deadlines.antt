@@ -1,22 +1,22 @@
 -- Nothing is granted after its deadline.
-use Rattle.std.proofs.Common.{ℕ, ◌≡◌, ◌∙◌, Bool, true, false, List, ◌∷◌, Option, Some, None, refl, sym, ap, subst, length, inl, inr}
-use Rattle.std.specs.Prelude.{slice_get, ◌&&◌, ◌||◌, MatchBool}
+use Rattle.std.proofs.Common.{ℕ, ◌≡◌, ◌∙◌, true, false, Some, None, refl, sym, ap, inl, inr}
+use Rattle.std.specs.Prelude.{slice_get, ◌||◌}
 use Rattle.std.proofs.lemmas.Bool.{eqb-true}
 use Rattle.service_model.specs.declared.call.ServiceCall.{ServiceCall}
 use Rattle.service_model.specs.declared.call.ServiceCall.TheVariants as call
 use Rattle.service_model.specs.declared.config.ServiceConfig.{ServiceConfig}
 use Rattle.service_model.specs.declared.outcome.ServiceOutcome.{ServiceOutcome}
 use Rattle.service_model.specs.declared.outcome.ServiceOutcome.TheVariants as told
-use Rattle.service_model.specs.View.{Standing, Forwarded, Admitted, ServiceView, stands_forwarded, stands_held, is_waiting}
+use Rattle.service_model.specs.View.{Forwarded, Admitted, ServiceView, stands_forwarded, stands_held, is_waiting}
 use Rattle.service_model.specs.Moments.{at_moment}
 use Rattle.service_model.specs.Submission.{is_before}
 use Rattle.service_model.specs.Deadlines.{is_late, has_late, WithdrawsLate}
-use Rattle.service_model.specs.Granting.{AnswersNext, AsksWorkers, AsksThese, FirstTakes, Grants, Rests, may_grant}
-use Rattle.service_model.specs.Answers.{Answers, AnswersAt, moment_of_call}
-use Rattle.service_model.specs.Runs.{Step, granted_by, is_ticket, grants, moment_of_step}
+use Rattle.service_model.specs.Granting.{AnswersNext, AsksWorkers, Grants, Rests, may_grant}
+use Rattle.service_model.specs.Answers.{AnswersAt}
+use Rattle.service_model.specs.Runs.{granted_by, is_ticket, moment_of_step}
 use Rattle.service_model.specs.Laws.{NoGrantIsLate}
 use Rattle.service_laws.proofs.Lists.{either, none_passes, second_false, some_same}
-use Rattle.service_laws.proofs.Outcomes.{IsPlain, IsNoNext, plainly}
+use Rattle.service_laws.proofs.Outcomes.{IsPlain, plainly}
 use Rattle.service_laws.proofs.Refreshed.{refreshed}
 
 -- the outcome grants the request of this ticket, which waits in v, and whose deadline is not before m
@@ -58,7 +58,7 @@ module _ (c : ServiceConfig) (m : ℕ) (v : ServiceView) (o : ServiceOutcome) (w
   by_grant none fresh same worker x is q at =
       let ticket_is : x.ticket ≡ ticket = eqb-true x.ticket ticket (ap (λ p. is_ticket ticket (granted_by p)) (sym x.outcome_is) ∙ is) in
       let there : slice_get v.admitted ticket ≡ Some x.q =
-          ap (λ l. slice_get l ticket) (sym same) ∙ ap (slice_get fresh.admitted) (sym ticket_is) ∙ x.admitted in
+      ap (λ l. slice_get l ticket) (sym same) ∙ ap (slice_get fresh.admitted) (sym ticket_is) ∙ x.admitted in
       let q_is : x.q ≡ q = some_same x.q q (sym there ∙ at) in
       ap (λ p. is_before p.deadline m) (sym q_is) ∙ in_time v m ticket x.request x.q none there x.stands
 
@@ -73,9 +73,9 @@ module _ (c : ServiceConfig) (m : ℕ) (v : ServiceView) (o : ServiceOutcome) (w
       either (has_late v m) (WithdrawsLate c m v o w) _ InTime
       (λ _ y. absurd (none_granted ticket o (ap granted_by y.outcome_is) is))
       (λ none y. either (may_grant v) (AsksWorkers c m v o w) (Rests m v 0 o w) InTime
-        (λ _ z. by_asking none z is)
-        (λ _ z. absurd (none_granted ticket o (ap granted_by z.0) is))
-        y)
+      (λ _ z. by_asking none z is)
+      (λ _ z. absurd (none_granted ticket o (ap granted_by z.0) is))
+      y)
       x
 
 by_call : (c : ServiceConfig) (m : ℕ) (v : ServiceView) (asked : ServiceCall) (o : ServiceOutcome) (w : ServiceView)

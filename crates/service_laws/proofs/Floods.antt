@@ -1,7 +1,7 @@
 -- A flood of one tenant leaves half of the shared places to others.
-use Rattle.std.proofs.Common.{ℕ, ◌≡◌, ◌∙◌, ◌+◌, ◌<◌, ◌≤◌, Bool, true, false, List, ◌∷◌, Option, Some, None, refl, sym, ap, subst, length, arith}
+use Rattle.std.proofs.Common.{ℕ, ◌≡◌, ◌∙◌, ◌+◌, ◌<◌, ◌≤◌, true, Option, Some, None, refl, sym, ap, subst, length, arith}
 use Rattle.std.specs.List.{count_by}
-use Rattle.waiting_room.specs.Room.{RoomView, own_places, waiting_of, refusal, entered, shared_of, shared_free}
+use Rattle.waiting_room.specs.Room.{own_places, waiting_of, refusal, entered, shared_of, shared_free}
 use Rattle.waiting_room.proofs.Always as always
 use Rattle.fq_model.specs.declared.event.Cause.TheVariants as cause
 use Rattle.fq_model.specs.declared.event.Reply.{Reply}
@@ -16,16 +16,16 @@ use Rattle.service_model.specs.View.{Standing, Held, Forwarded, Admitted, Servic
 use Rattle.service_model.specs.Opening.{service_fault}
 use Rattle.service_model.specs.Moments.{at_moment}
 use Rattle.service_model.specs.Room.{room_of}
-use Rattle.service_model.specs.Rows.{IsAnswered, RefusedOrElse}
+use Rattle.service_model.specs.Rows.{RefusedOrElse}
 use Rattle.service_model.specs.Rolling.{submit_call}
 use Rattle.service_model.specs.Limits.{goes_at_once}
 use Rattle.service_model.specs.Submission.{submit_cause, with_admitted, IsAdmitted, IsForwardedBy, GoesAtOnce, AnswersSubmit}
 use Rattle.service_model.specs.Changes.{is_close_due, ClosesScheduler}
 use Rattle.service_model.specs.Answers.{coming, AnswersAt}
-use Rattle.service_model.specs.Runs.{Step, IsRun, moment_of_step}
+use Rattle.service_model.specs.Runs.{moment_of_step}
 use Rattle.service_model.specs.Laws.{IsSubmitFor, FloodsAreHalved}
 use Rattle.service_laws.proofs.Lists.{either, some_same}
-use Rattle.service_laws.proofs.Refreshed.{SameRequests, itself, same_as, made_now}
+use Rattle.service_laws.proofs.Refreshed.{SameRequests, made_now}
 use Rattle.service_laws.proofs.Rolled.{with_room_slots}
 use Rattle.service_laws.proofs.Calls.{IsLetIn, let_in, let_in_after, admits_of}
 use Rattle.service_laws.proofs.Calls as calls
@@ -50,7 +50,7 @@ module _ (c : ServiceConfig) (sound : service_fault c ≡ None) where
   by_admission v m q next o w slots known waits x =
       ap (room_of c) x.1
       ∙ room_entered c (named_fits c sound) v (with_admitted v m (record q { stands = next }))
-        (admits_of c v m q next known waits) slots
+      (admits_of c v m q next known waits) slots
 
   module _ (v : ServiceView) (slots : length v.slots ≡ length c.scheduler.weights) (o : ServiceOutcome) (w : ServiceView)
       (ticket : IsTicket o) where
@@ -83,11 +83,11 @@ module _ (c : ServiceConfig) (sound : service_fault c ≡ None) where
         either (goes_at_once c v q.slot q.kind) (GoesAtOnce c m v q o w) (IsAdmitted v m q Held o w)
         (room_of c w ≡ entered (room_of c v) q.slot)
         (λ _ x.
-          by_reply x.reply x.made m q
-          (ap length (with_room_slots c m v (submit_call c m q) x.reply x.made x.makes) ∙ slots)
-          (let_in_after c m v (submit_call c m q) x.reply x.made q x.makes known)
-          x.answered
-          ∙ ap (λ r. entered r q.slot) (calls.room_same c m v (submit_call c m q) x.reply x.made x.makes))
+        by_reply x.reply x.made m q
+        (ap length (with_room_slots c m v (submit_call c m q) x.reply x.made x.makes) ∙ slots)
+        (let_in_after c m v (submit_call c m q) x.reply x.made q x.makes known)
+        x.answered
+        ∙ ap (λ r. entered r q.slot) (calls.room_same c m v (submit_call c m q) x.reply x.made x.makes))
         (λ _ x. by_admission v m q Held o w slots known refl x)
 
     by_causes : (why : Option ServiceRefusal) (m generation : ℕ) (q : Admitted) → submit_cause c v m generation q ≡ why
@@ -134,11 +134,11 @@ module _ (c : ServiceConfig) (sound : service_fault c ≡ None) where
   halved v slot w h shared e own =
       subst (λ r. shared_of r slot ≤ shared_free r + 1) (sym e.room)
       (subst
-        (λ r. slot < length r.waiting → r.per_tenant ≡ 0 → refusal r slot ≡ None → own_places r ≤ waiting_of r slot
-          → shared_of (entered r slot) slot ≤ shared_free (entered r slot) + 1)
-        h.room
-        (always.floods_are_halved c.scheduler.requests (length c.scheduler.weights) c.room_per_tenant h.steps h.run slot)
-        (omega (arith, e.within, size_is c v)) shared e.lets own)
+      (λ r. slot < length r.waiting → r.per_tenant ≡ 0 → refusal r slot ≡ None → own_places r ≤ waiting_of r slot
+      → shared_of (entered r slot) slot ≤ shared_free (entered r slot) + 1)
+      h.room
+      (always.floods_are_halved c.scheduler.requests (length c.scheduler.weights) c.room_per_tenant h.steps h.run slot)
+      (omega (arith, e.within, size_is c v)) shared e.lets own)
 
 pub floods_are_halved : FloodsAreHalved
 floods_are_halved c step older sound run slot ticket shared is got own =

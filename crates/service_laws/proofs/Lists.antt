@@ -1,5 +1,5 @@
 -- Lists and tests.
-use Rattle.std.proofs.Common.{ℕ, ◌≡◌, ◌<◌, ◌∙◌, Bool, true, false, List, Option, None, Some, refl, sym, ap, get_or, length}
+use Rattle.std.proofs.Common.{ℕ, ◌≡◌, ◌∙◌, Bool, true, false, List, Option, None, Some, refl, sym, ap}
 use Rattle.std.specs.Prelude.{MatchBool, slice_get, ◌&&◌}
 use Rattle.std.specs.List.{list_any}
 use Rattle.std.proofs.lemmas.Bool.{false_from_ne_true}
@@ -23,8 +23,8 @@ pub none_passes : {X : Type 0} (p : X → Bool) (xs : List X) → list_any p xs 
     → slice_get xs i ≡ Some x → p x ≡ false
 none_passes p xs none i x at =
     false_from_ne_true (p x) (λ passes. not_both (list_any p xs)
-      (list_any_at p xs i x (slice_get_within xs i x at) (ap p (get_or_from_slice_get xs i x x at) ∙ passes))
-      none)
+    (list_any_at p xs i x (slice_get_within xs i x at) (ap p (get_or_from_slice_get xs i x x at) ∙ passes))
+    none)
 
 or_this : {X : Type 0} → X → Option X → X
 or_this d None = d

@@ -1,33 +1,24 @@
 -- Each call moves requests in small steps, one after another.
-use Rattle.std.proofs.Common.{ℕ, ◌≡◌, ◌∙◌, ◌-◌, ◌+◌, Bool, true, false, List, [], ◌∷◌, ◌++◌, Option, Some, None, refl, sym, ap, subst, length, inl, inr}
-use Rattle.std.specs.Prelude.{◌==◌, ◌&&◌, ◌||◌, not, slice_get, slice_set, slice_index_or, if◌then◌else◌, is_none, MatchBool}
-use Rattle.std.specs.List.{FoldsTo, range_with_len}
-use Rattle.std.proofs.lemmas.List.{length-set}
+use Rattle.std.proofs.Common.{ℕ, ◌≡◌, ◌∙◌, Bool, true, false, List, [], ◌∷◌, ◌++◌, Option, Some, None, refl, sym, ap, length}
+use Rattle.std.specs.Prelude.{◌==◌, ◌&&◌, ◌||◌, not, slice_get, slice_set, if◌then◌else◌}
 use Rattle.std.proofs.lemmas.List.Quantifiers.{position-Some}
 use Rattle.std.proofs.lemmas.Option.{get_or_from_slice_get}
 use Rattle.waiting_room.specs.Room.{refusal}
 use Rattle.fq_model.specs.declared.event.Call.{Call}
-use Rattle.fq_model.specs.declared.event.Cause.TheVariants as cause
 use Rattle.fq_model.specs.declared.event.Reply.{Reply}
 use Rattle.fq_model.specs.declared.event.Reply.TheVariants as answer
-use Rattle.fq_model.specs.History.{weight_at}
-use Rattle.service_model.specs.declared.call.ServiceCall.{ServiceCall}
-use Rattle.service_model.specs.declared.call.ServiceCall.TheVariants as call
 use Rattle.service_model.specs.declared.config.ServiceConfig.{ServiceConfig}
 use Rattle.service_model.specs.declared.outcome.ServiceOutcome.{ServiceOutcome}
-use Rattle.service_model.specs.declared.refusal.ServiceRefusal.{ServiceRefusal}
-use Rattle.service_model.specs.View.{Run, Standing, Held, Forwarded, Runs, Ended, Withdrawn, Admitted, SlotView, ServiceView, stands_held, stands_forwarded, is_held, is_forwarded, is_waiting, is_open, of_slot, has_any, has_tenant, slot_at, ticket_on, with_standing, with_slot, runs_before, IsOnWorker}
-use Rattle.service_model.specs.Rows.{IsAnswered, RefusedOrElse}
-use Rattle.service_model.specs.Moments.{at_moment}
-use Rattle.service_model.specs.Idling.{with_work, with_idle, with_end_of}
-use Rattle.service_model.specs.Room.{room_of, waiting_in}
-use Rattle.service_model.specs.Scheduling.{MakesNow, MakesAt, lacks_room}
-use Rattle.service_model.specs.Rolling.{submit_call, withdraw_call, renumbered, RollsOver, MakesOnNext, MakesWithRoom}
-use Rattle.service_model.specs.Limits.{may_go, next_to_go, goes_at_once, passes, is_stuck, Forwards, ReleasesThese, Releases}
+use Rattle.service_model.specs.View.{Standing, Held, Forwarded, Runs, Ended, Withdrawn, Admitted, ServiceView, stands_held, stands_forwarded, is_held, is_forwarded, is_waiting, is_open, of_slot, has_any, has_tenant, with_standing, runs_before}
+use Rattle.service_model.specs.Idling.{with_idle, with_end_of}
+use Rattle.service_model.specs.Room.{room_of}
+use Rattle.service_model.specs.Scheduling.{lacks_room}
+use Rattle.service_model.specs.Rolling.{submit_call, withdraw_call, MakesOnNext, MakesWithRoom}
+use Rattle.service_model.specs.Limits.{may_go, next_to_go, Forwards, ReleasesThese, Releases}
 use Rattle.service_model.specs.Withdrawing.{without, WithdrawsForwarded, Withdraws, CancelsKnown}
-use Rattle.service_laws.proofs.Lists.{either, second_false}
-use Rattle.service_laws.proofs.Refreshed.{SameRequests, itself, same_as, made_now, made_at, reported, refreshed}
-use Rattle.service_laws.proofs.Rolled.{Renumbers, rolled, with_room_slots, with_room_still}
+use Rattle.service_laws.proofs.Lists.{either}
+use Rattle.service_laws.proofs.Refreshed.{SameRequests, itself, same_as, made_now}
+use Rattle.service_laws.proofs.Rolled.{Renumbers, rolled, with_room_still}
 
 -- ---- the moves
 
@@ -118,7 +109,7 @@ next_is_held : (c : ServiceConfig) (v : ServiceView) (slot ticket : ℕ) (q : Ad
 next_is_held c v slot ticket q next at =
     let found = position-Some (may_go c v slot) v.admitted ticket q next in
     let goes : may_go c v slot q ≡ true =
-        ap (may_go c v slot) (sym (get_or_from_slice_get v.admitted ticket q q at)) ∙ found.1 in
+    ap (may_go c v slot) (sym (get_or_from_slice_get v.admitted ticket q q at)) ∙ found.1 in
     second_of_both (q.slot == slot) (is_held q) (first_of_both (of_slot slot is_held q) _ goes)
 
 module _ (c : ServiceConfig) (R : ServiceView → ServiceView → Type 0) (k : IsClosed c R) where
@@ -137,8 +128,8 @@ module _ (c : ServiceConfig) (R : ServiceView → ServiceView → Type 0) (k : I
   with_room m v asked r w =
       either (lacks_room v.present asked && not (runs_before v)) (MakesOnNext c m v asked r w) _ (R v w)
       (λ _ x. k.joins v x.rolled w
-        (k.renumbers v x.rolled (rolled c m v x.rolled x.rolls_over))
-        (same x.rolled w (made_now x.rolled asked r w x.makes)))
+      (k.renumbers v x.rolled (rolled c m v x.rolled x.rolls_over))
+      (same x.rolled w (made_now x.rolled asked r w x.makes)))
       (λ _ x. same v w (made_now v asked r w x))
 
   -- the request of this ticket stands elsewhere, and then the service is u but for what else changes
@@ -163,8 +154,8 @@ module _ (c : ServiceConfig) (R : ServiceView → ServiceView → Type 0) (k : I
       let u : ServiceView = with_standing x.made ticket x.q (Forwarded x.request) in
       onto v u w
       (k.joins v x.made u
-        (with_room m v (submit_call c m x.q) (answer.Request x.request) x.made x.makes)
-        (turned x.made u ticket x.q (Forwarded x.request) at (held_becomes x.q.stands x.request held) refl refl))
+      (with_room m v (submit_call c m x.q) (answer.Request x.request) x.made x.makes)
+      (turned x.made u ticket x.q (Forwarded x.request) at (held_becomes x.q.stands x.request held) refl refl))
       x.after
 
   releases_these : (m slot : ℕ) (tickets : List ℕ) (v w : ServiceView) → ReleasesThese c m slot tickets v w → R v w
@@ -192,13 +183,13 @@ module _ (c : ServiceConfig) (R : ServiceView → ServiceView → Type 0) (k : I
   withdraws m v ticket q w at waits =
       either (is_forwarded q) (WithdrawsForwarded c m v ticket q w) _ (R v w)
       (λ _ x.
-        let now = made_now v (withdraw_call c m q) (answer.Withdrawn q.label) x.made x.makes in
-        let there = ap (λ l. slice_get l ticket) now.admitted ∙ at in
-        k.joins v x.made w
-        (same v x.made now)
-        (k.joins x.made (without x.made ticket q) w
-          (left x.made ticket q there waits)
-          (releases m q.slot (without x.made ticket q) w x.releases)))
+      let now = made_now v (withdraw_call c m q) (answer.Withdrawn q.label) x.made x.makes in
+      let there = ap (λ l. slice_get l ticket) now.admitted ∙ at in
+      k.joins v x.made w
+      (same v x.made now)
+      (k.joins x.made (without x.made ticket q) w
+      (left x.made ticket q there waits)
+      (releases m q.slot (without x.made ticket q) w x.releases)))
       (λ _ x. onto v (without v ticket q) w (left v ticket q at waits) x)
 
   pub cancels : (m : ℕ) (v : ServiceView) (ticket : ℕ) (known : Option Admitted) (o : ServiceOutcome) (w : ServiceView)

@@ -1,6 +1,6 @@
 -- Which calls are answered by a grant or by rest: next alone.
-use Rattle.std.proofs.Common.{ℕ, ◌≡◌, ◌∙◌, Bool, true, false, List, [], ◌∷◌, Option, Some, None, refl, sym, ap, subst, length}
-use Rattle.std.specs.Prelude.{◌==◌, MatchBool, slice_get, is_none}
+use Rattle.std.proofs.Common.{ℕ, ◌≡◌, List, [], ◌∷◌, Option, Some, None, sym, subst}
+use Rattle.std.specs.Prelude.{◌==◌, slice_get, is_none}
 use Rattle.fq_model.specs.declared.event.Call.{Call}
 use Rattle.fq_model.specs.declared.event.Cause.TheVariants as cause
 use Rattle.fq_model.specs.declared.event.Reply.{Reply}
@@ -12,14 +12,14 @@ use Rattle.service_model.specs.declared.config.ServiceConfig.{ServiceConfig}
 use Rattle.service_model.specs.declared.outcome.ServiceOutcome.{ServiceOutcome}
 use Rattle.service_model.specs.declared.outcome.ServiceOutcome.TheVariants as told
 use Rattle.service_model.specs.declared.refusal.ServiceRefusal.{ServiceRefusal}
-use Rattle.service_model.specs.View.{Standing, Held, Admitted, ServiceView, is_waiting, ticket_on}
+use Rattle.service_model.specs.View.{Held, Admitted, ServiceView, is_waiting, ticket_on}
 use Rattle.service_model.specs.Rows.{IsAnswered, RefusedOrElse}
 use Rattle.service_model.specs.Limits.{goes_at_once}
-use Rattle.service_model.specs.Submission.{submit_cause, ticket_after, IsAdmitted, IsForwardedBy, GoesAtOnce, AnswersSubmit}
-use Rattle.service_model.specs.Withdrawing.{Withdraws, CancelsKnown}
-use Rattle.service_model.specs.Reports.{AnswersUsed, AcceptsUse}
-use Rattle.service_model.specs.Finishing.{Finishes, AnswersFinish}
-use Rattle.service_model.specs.Changes.{IsChangedBy, MakesChange, JoinsSlot, JoinsFirst, AnswersJoin, AnswersWeight, AnswersLimit, AnswersWorkers, next_tenant, joinable, join_cause, weight_cause, limit_cause, workers_cause, close_cause}
+use Rattle.service_model.specs.Submission.{submit_cause, IsAdmitted, IsForwardedBy, GoesAtOnce, AnswersSubmit}
+use Rattle.service_model.specs.Withdrawing.{CancelsKnown}
+use Rattle.service_model.specs.Reports.{AnswersUsed}
+use Rattle.service_model.specs.Finishing.{AnswersFinish}
+use Rattle.service_model.specs.Changes.{IsChangedBy, MakesChange, JoinsSlot, JoinsFirst, AnswersLimit, next_tenant, joinable, join_cause, weight_cause, limit_cause, workers_cause, close_cause}
 use Rattle.service_model.specs.Answers.{AnswersAt, coming}
 use Rattle.service_laws.proofs.Lists.{either}
 

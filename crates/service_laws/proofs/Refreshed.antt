@@ -1,13 +1,13 @@
 -- Reports change nothing but the schedulers.
-use Rattle.std.proofs.Common.{ℕ, ◌≡◌, ◌∙◌, ◌-◌, Bool, List, [], ◌∷◌, refl, sym, ap}
+use Rattle.std.proofs.Common.{ℕ, ◌≡◌, ◌∙◌, ◌-◌, List, [], ◌∷◌, refl, sym, ap}
 use Rattle.std.specs.Prelude.{◌==◌, is_none}
 use Rattle.std.specs.List.{FoldsTo, range_with_len}
 use Rattle.fq_model.specs.declared.event.Call.{Call}
 use Rattle.fq_model.specs.declared.event.Reply.{Reply}
 use Rattle.service_model.specs.declared.config.ServiceConfig.{ServiceConfig}
-use Rattle.service_model.specs.View.{Run, Admitted, SlotView, ServiceView, ticket_on}
+use Rattle.service_model.specs.View.{Run, ServiceView, ticket_on}
 use Rattle.service_model.specs.Scheduling.{MakesAt, MakesNow, MakesBefore}
-use Rattle.service_model.specs.Reports.{ReportsDue, ReportsUse, RefreshesWorker, Refreshes, is_due, use_of}
+use Rattle.service_model.specs.Reports.{ReportsUse, RefreshesWorker, Refreshes, is_due, use_of}
 use Rattle.service_laws.proofs.Lists.{either}
 
 -- both services have the same requests, which stand alike, and the same slots
@@ -48,9 +48,9 @@ refreshed_one c m v worker w =
     either (is_none (ticket_on v worker)) _ _ (SameRequests v w)
     (λ _ x. same_as v v w (itself v) x)
     (λ _ x. either (x.run.named == 0) _ _ (SameRequests v w)
-      (λ _ y. reported c m v x.run (use_of (m - x.run.taken)) w y)
-      (λ _ y. same_as v v w (itself v) y)
-      x.reports)
+    (λ _ y. reported c m v x.run (use_of (m - x.run.taken)) w y)
+    (λ _ y. same_as v v w (itself v) y)
+    x.reports)
 
 refreshed_all : (c : ServiceConfig) (m : ℕ) (v : ServiceView) (workers : List ℕ) (w : ServiceView)
     → FoldsTo (RefreshesWorker c m) v workers w → SameRequests v w

@@ -1,5 +1,5 @@
 -- Next is answered by rest for a cause.
-use Rattle.std.proofs.Common.{ℕ, ◌≡◌, ◌<◌, ◌≤◌, ◌∙◌, ◌⊎◌, Bool, true, false, List, Option, nat_lt, refl, sym, ap, subst, arith, inl, inr}
+use Rattle.std.proofs.Common.{ℕ, ◌≡◌, ◌<◌, ◌≤◌, ◌∙◌, ◌⊎◌, Bool, true, false, Option, nat_lt, sym, subst, arith, inl, inr}
 use Rattle.std.specs.Prelude.{◌&&◌}
 use Rattle.std.proofs.lemmas.Bool.{cases_lt}
 use Rattle.std.proofs.lemmas.Bool.Decides.{nat_tests}
@@ -13,9 +13,9 @@ use Rattle.service_model.specs.Moments.{at_moment}
 use Rattle.service_model.specs.Deadlines.{has_late, WithdrawsLate}
 use Rattle.service_model.specs.Granting.{AnswersNext, AsksWorkers, Rests, may_grant}
 use Rattle.service_model.specs.Answers.{AnswersAt}
-use Rattle.service_model.specs.Runs.{Step, moment_of_step}
+use Rattle.service_model.specs.Runs.{moment_of_step}
 use Rattle.service_model.specs.Laws.{RestsForCause, AllFreeDecline}
-use Rattle.service_laws.proofs.Lists.{either, not_both, second_false}
+use Rattle.service_laws.proofs.Lists.{either, second_false}
 use Rattle.service_laws.proofs.Outcomes.{IsPlain, plainly}
 
 -- nothing waits in the present scheduler, or all workers run something, or the free ones decline
@@ -61,9 +61,9 @@ module _ (c : ServiceConfig) (m : ℕ) (v : ServiceView) (o : ServiceOutcome) (w
       either (has_late v m) (WithdrawsLate c m v o w) _ (HasCause c m v)
       (λ _ y. absurd (no_work until rest y.outcome_is))
       (λ _ y. either (may_grant v) (AsksWorkers c m v o w) (Rests m v 0 o w) (HasCause c m v)
-        (λ _ z. by_asking z)
-        (λ none z. idle none)
-        y)
+      (λ _ z. by_asking z)
+      (λ none z. idle none)
+      y)
       x
 
 by_call : (c : ServiceConfig) (m : ℕ) (v : ServiceView) (asked : ServiceCall) (o : ServiceOutcome) (w : ServiceView)

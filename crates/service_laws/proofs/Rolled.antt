@@ -1,16 +1,16 @@
 -- What a scheduler that follows changes: the numbers of forwarded requests.
-use Rattle.std.proofs.Common.{ℕ, zero, suc, ◌≡◌, ◌∙◌, ◌+◌, ◌<◌, Bool, true, false, List, [], ◌∷◌, Option, Some, None, refl, sym, ap, subst, length, cond, arith}
+use Rattle.std.proofs.Common.{ℕ, zero, suc, ◌≡◌, ◌∙◌, ◌+◌, Bool, true, false, List, [], ◌∷◌, Some, refl, sym, ap, cond}
 use Rattle.std.specs.Prelude.{slice_get, ◌&&◌, not}
 use Rattle.std.specs.List.{count_by}
 use Rattle.std.proofs.lemmas.List.Sums.{sum_by-cons}
 use Rattle.fq_model.specs.declared.event.Call.{Call}
 use Rattle.fq_model.specs.declared.event.Reply.{Reply}
 use Rattle.service_model.specs.declared.config.ServiceConfig.{ServiceConfig}
-use Rattle.service_model.specs.View.{Standing, Held, Forwarded, Runs, Ended, Withdrawn, Admitted, SlotView, ServiceView, is_forwarded, runs_before}
-use Rattle.service_model.specs.Scheduling.{lacks_room, MakesNow}
+use Rattle.service_model.specs.View.{Forwarded, Admitted, ServiceView, is_forwarded, runs_before}
+use Rattle.service_model.specs.Scheduling.{lacks_room}
 use Rattle.service_model.specs.Rolling.{renumbered, RollsOver, MakesOnNext, MakesWithRoom}
 use Rattle.service_laws.proofs.Lists.{either, not_both, some_same}
-use Rattle.service_laws.proofs.Refreshed.{SameRequests, itself, same_as, made_now}
+use Rattle.service_laws.proofs.Refreshed.{made_now}
 
 -- a test that doesn't read the number of a request in its scheduler
 abbrev pub IsBlind : (Admitted → Bool) → Type 0
@@ -82,8 +82,8 @@ with_room_count test blind c m v asked r w =
     either (lacks_room v.present asked && not (runs_before v)) (MakesOnNext c m v asked r w) _
     (count_by test w.admitted ≡ count_by test v.admitted)
     (λ _ x.
-      ap (count_by test) ((made_now x.rolled asked r w x.makes).admitted ∙ (rolled c m v x.rolled x.rolls_over).admitted)
-      ∙ counted test blind 0 v.admitted)
+    ap (count_by test) ((made_now x.rolled asked r w x.makes).admitted ∙ (rolled c m v x.rolled x.rolls_over).admitted)
+    ∙ counted test blind 0 v.admitted)
     (λ _ x. ap (count_by test) (made_now v asked r w x).admitted)
 
 pub with_room_still : (c : ServiceConfig) (m : ℕ) (v : ServiceView) (asked : Call) (r : Reply) (w : ServiceView)
@@ -93,7 +93,7 @@ with_room_still c m v asked r w ticket q held at =
     either (lacks_room v.present asked && not (runs_before v)) (MakesOnNext c m v asked r w) _
     (slice_get w.admitted ticket ≡ Some q)
     (λ _ x.
-      ap (λ l. slice_get l ticket)
-      ((made_now x.rolled asked r w x.makes).admitted ∙ (rolled c m v x.rolled x.rolls_over).admitted)
-      ∙ still 0 ticket v.admitted q held at)
+    ap (λ l. slice_get l ticket)
+    ((made_now x.rolled asked r w x.makes).admitted ∙ (rolled c m v x.rolled x.rolls_over).admitted)
+    ∙ still 0 ticket v.admitted q held at)
     (λ _ x. ap (λ l. slice_get l ticket) (made_now v asked r w x).admitted ∙ at)

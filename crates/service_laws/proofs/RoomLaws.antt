@@ -1,23 +1,19 @@
 -- The laws of the room, over all that a service does.
-use Rattle.std.proofs.Common.{ℕ, zero, suc, ◌≡◌, ◌∙◌, ◌+◌, ◌<◌, ◌≤◌, ◌⊎◌, Bool, true, false, List, [], ◌∷◌, Option, Some, None, All, refl, sym, ap, subst, length, replicate, get_or, arith, inl, inr}
-use Rattle.std.specs.Prelude.{nat_lt, not, ◌==◌, MatchBool}
-use Rattle.std.proofs.lemmas.Bool.{cases_lt}
+use Rattle.std.proofs.Common.{ℕ, ◌≡◌, ◌∙◌, ◌<◌, ◌≤◌, false, List, [], ◌∷◌, Option, Some, None, sym, ap, subst, length, replicate, arith}
+use Rattle.std.specs.Prelude.{nat_lt}
 use Rattle.std.proofs.lemmas.Bool.Decides.{nat_tests}
 use Rattle.std.proofs.lemmas.List.{length-replicate, get_or-replicate, ext_get_or}
 use Rattle.std.proofs.lemmas.List.Elements.{All-nil}
 use Rattle.fq_model.specs.declared.config.ConfigFault.{ConfigFault}
 use Rattle.fq_model.specs.Limits.{config_fault}
-use Rattle.fq_model.specs.Rows.{first_true}
 use Rattle.fq_model.specs.Sums.{list_below}
 use Rattle.fluid_reference.proofs.Lists.{list_length, list_at}
-use Rattle.waiting_room.specs.Room.{RoomView, all_waiting, own_places, waiting_of, refusal}
+use Rattle.waiting_room.specs.Room.{all_waiting}
 use Rattle.waiting_room.specs.Runs as rooms
-use Rattle.waiting_room.proofs.Always.{waiting_fits, own_places_are_kept}
-use Rattle.service_model.specs.declared.call.ServiceCall.{ServiceCall}
+use Rattle.waiting_room.proofs.Always.{waiting_fits}
 use Rattle.service_model.specs.declared.config.ServiceConfig.{ServiceConfig}
 use Rattle.service_model.specs.declared.config.ServiceFault.{ServiceFault}
-use Rattle.service_model.specs.declared.outcome.ServiceOutcome.{ServiceOutcome}
-use Rattle.service_model.specs.View.{Admitted, SlotView, ServiceView}
+use Rattle.service_model.specs.View.{SlotView}
 use Rattle.service_model.specs.Opening.{own_fault, own_faults, first_fault, service_fault, opened}
 use Rattle.service_model.specs.Room.{room_of, waiting_in}
 use Rattle.service_model.specs.Runs.{Step, IsRun, service_after}
@@ -50,11 +46,11 @@ module _ (c : ServiceConfig) where
       let size : length (opened c).slots ≡ n = length-replicate n fresh in
       ap (λ l. record { places = c.scheduler.requests; per_tenant = c.room_per_tenant; waiting = l })
       (ext_get_or 0 (replicate n 0) (list_below (waiting_in (opened c)) (length (opened c).slots))
-        (omega (arith, length-replicate n none, size, list_length (waiting_in (opened c)) (length (opened c).slots)))
-        (λ i inside.
-          let low : i < n = omega (arith, inside, length-replicate n none) in
-          get_or-replicate n i none none low
-          ∙ sym (list_at (waiting_in (opened c)) (length (opened c).slots) i 0 (omega (arith, low, size)))))
+      (omega (arith, length-replicate n none, size, list_length (waiting_in (opened c)) (length (opened c).slots)))
+      (λ i inside.
+      let low : i < n = omega (arith, inside, length-replicate n none) in
+      get_or-replicate n i none none low
+      ∙ sym (list_at (waiting_in (opened c)) (length (opened c).slots) i 0 (omega (arith, low, size)))))
 
   opened_room : HasRoom c (opened c)
   opened_room = record {

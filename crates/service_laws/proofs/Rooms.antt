@@ -1,5 +1,5 @@
 -- What waits in a service came to its room as the room lets it.
-use Rattle.std.proofs.Common.{ℕ, zero, suc, ◌≡◌, ◌≢◌, ◌∙◌, ◌+◌, ◌-◌, ◌<◌, ◌≤◌, Bool, true, false, List, [], ◌∷◌, ◌++◌, ◌⊎◌, Option, Some, None, All, refl, sym, ap, subst, length, get_or, set, cond, arith, inl, inr}
+use Rattle.std.proofs.Common.{ℕ, suc, ◌≡◌, ◌≢◌, ◌∙◌, ◌+◌, ◌<◌, ◌≤◌, Bool, true, false, List, [], ◌∷◌, ◌++◌, ◌⊎◌, Some, None, All, refl, sym, ap, subst, length, get_or, set, cond, arith, inl, inr}
 use Rattle.std.specs.Prelude.{◌==◌, ◌&&◌, ◌||◌, slice_get, nat_lt}
 use Rattle.std.specs.List.{count_by}
 use Rattle.std.proofs.lemmas.Bool.{cases_eq, eq-eqb, cases_lt}
@@ -10,15 +10,14 @@ use Rattle.std.proofs.lemmas.List.Sums.{sum_by-set, sum_by-append, sum_by-cons}
 use Rattle.std.proofs.lemmas.Option.{slice_get_within, get_or_from_slice_get}
 use Rattle.fq_model.specs.Sums.{list_below}
 use Rattle.fluid_reference.proofs.Lists.{list_same, list_length, list_at}
-use Rattle.waiting_room.specs.Room.{RoomView, refusal, waiting_of, with_waiting, entered, left}
+use Rattle.waiting_room.specs.Room.{waiting_of, with_waiting, entered, left}
 use Rattle.waiting_room.specs.Runs as rooms
 use Rattle.waiting_room.specs.Runs.{Enters, Leaves}
 use Rattle.service_model.specs.declared.config.ServiceConfig.{ServiceConfig}
 use Rattle.service_model.specs.View.{Standing, Held, Forwarded, Runs, Ended, Withdrawn, Admitted, SlotView, ServiceView, stands_held, stands_forwarded, is_waiting, is_forwarded, of_slot, has_tenant, slot_at}
-use Rattle.service_model.specs.Opening.{opened}
 use Rattle.service_model.specs.Rolling.{renumbered}
 use Rattle.service_model.specs.Room.{room_of, waiting_in}
-use Rattle.service_laws.proofs.Lists.{either, not_both}
+use Rattle.service_laws.proofs.Lists.{not_both}
 use Rattle.service_laws.proofs.Rolled.{Renumbers, counted}
 use Rattle.service_laws.proofs.Moves.{Becomes, Stays, Turns, Admits, IsClosed}
 use Rattle.service_laws.proofs.Calls.{waiting_is_blind}
@@ -97,13 +96,13 @@ module _ (c : ServiceConfig) where
           list_at (waiting_in w) (length v.slots) i 0 low
           ∙ elim (cases_eq i slot) [
             | inl e ↦
-              ap (waiting_in w) e ∙ is
-              ∙ sym (get_or-set_same was slot n 0 (omega (arith, within, was_long)))
-              ∙ ap (λ k. get_or (set was slot n) k 0) (sym e)
+                ap (waiting_in w) e ∙ is
+                ∙ sym (get_or-set_same was slot n 0 (omega (arith, within, was_long)))
+                ∙ ap (λ k. get_or (set was slot n) k 0) (sym e)
             | inr ne ↦
-              others i ne
-              ∙ sym (list_at (waiting_in v) (length v.slots) i 0 low)
-              ∙ sym (get_or-set_other was slot i n 0 ne)
+                others i ne
+                ∙ sym (list_at (waiting_in v) (length v.slots) i 0 low)
+                ∙ sym (get_or-set_other was slot i n 0 ne)
           ]
 
 -- ---- one request stands elsewhere
@@ -147,7 +146,7 @@ module _ (v w : ServiceView) (x : Turns v w) where
         own_one x.q,
         ap as_one was,
         own_one (record x.q { stands = x.next }),
-        ap as_one is
+        ap as_one is,
       )
 
 -- where it stood and stands: it waits still, or waits no more, or waited no more already
@@ -227,8 +226,8 @@ module _ (c : ServiceConfig) (named : c.named ≤ length c.scheduler.weights) wh
   renumbers v w x =
       same_room v w (ap length x.slots)
       (room_same c v w (ap length x.slots) (λ slot.
-        ap (count_by (of_slot slot is_waiting)) x.admitted
-        ∙ counted (of_slot slot is_waiting) (waiting_is_blind slot) 0 v.admitted))
+      ap (count_by (of_slot slot is_waiting)) x.admitted
+      ∙ counted (of_slot slot is_waiting) (waiting_is_blind slot) 0 v.admitted))
       (λ all. subst (All (IsBelow (length v.slots))) (sym x.admitted) (known_renumbered 0 (length v.slots) v.admitted all))
 
   joins : (v u w : ServiceView) → KeepsRoom v u → KeepsRoom u w → KeepsRoom v w
@@ -246,26 +245,29 @@ module _ (c : ServiceConfig) (named : c.named ≤ length c.scheduler.weights) wh
   known_after v w x all =
       subst (All (IsBelow (length v.slots))) (sym x.admitted)
       (All-set (IsBelow (length v.slots)) v.admitted x.ticket (record x.q { stands = x.next })
-        (slot_of v x.ticket x.q x.there all) all)
+      (slot_of v x.ticket x.q x.there all) all)
 
   leaves : (v w : ServiceView) (x : Turns v w) → waits x.q.stands ≡ true → waits x.next ≡ false → KeepsRoom v w
   leaves v w x was is = record {
     slots = x.slots;
     room = λ h.
-      let within = slot_of v x.ticket x.q x.there h.known in
-      let own = turned_own v w x was is in
-      let here = waiting_at c v x.q.slot within in
-      record {
-        slots = x.slots ∙ h.slots;
-        known = subst (λ n. All (IsBelow n) w.admitted) (sym x.slots) (known_after v w x h.known);
-        steps = Leaves x.q.slot ∷ h.steps;
-        run = (h.run, subst (λ r. rooms.MayStep r (Leaves x.q.slot)) (sym h.room)
-          (omega (arith, within, size_is c v), omega (arith, own, here)));
-        room =
-          ap (λ r. left r x.q.slot) h.room
-          ∙ ap (with_waiting (room_of c v) x.q.slot) (omega (arith, own, here))
-          ∙ sym (room_with c v w x.q.slot (waiting_in w x.q.slot) within x.slots refl (turned_other v w x));
-      };
+        let within = slot_of v x.ticket x.q x.there h.known in
+        let own = turned_own v w x was is in
+        let here = waiting_at c v x.q.slot within in
+        record {
+          slots = x.slots ∙ h.slots;
+          known = subst (λ n. All (IsBelow n) w.admitted) (sym x.slots) (known_after v w x h.known);
+          steps = Leaves x.q.slot ∷ h.steps;
+          run = (
+            h.run,
+            subst (λ r. rooms.MayStep r (Leaves x.q.slot)) (sym h.room)
+                (omega (arith, within, size_is c v), omega (arith, own, here)),
+          );
+          room =
+              ap (λ r. left r x.q.slot) h.room
+              ∙ ap (with_waiting (room_of c v) x.q.slot) (omega (arith, own, here))
+              ∙ sym (room_with c v w x.q.slot (waiting_in w x.q.slot) within x.slots refl (turned_other v w x));
+        };
   }
 
   turns : (v w : ServiceView) → Turns v w → KeepsRoom v w
@@ -289,11 +291,11 @@ module _ (c : ServiceConfig) (named : c.named ≤ length c.scheduler.weights) wh
   slot_is_there v slot slots e = elim (cases_lt slot (length v.slots)) [
     | inl l ↦ l
     | inr past ↦
-      let none = get_or_past v.slots slot (record { generation = 0; limit = 0; began_to_wait = None }) past in
-      let generation : (slot_at v slot).generation ≡ 0 = ap (λ (s : SlotView). s.generation) none in
-      let never : has_tenant c.named v slot ≡ false =
-          ap (λ g. nat_lt slot c.named || nat_lt 0 g) generation ∙ unnamed slot (omega (arith, past, slots, named)) in
-      absurd (not_both (has_tenant c.named v slot) e never)
+        let none = get_or_past v.slots slot (record { generation = 0; limit = 0; began_to_wait = None }) past in
+        let generation : (slot_at v slot).generation ≡ 0 = ap (λ (s : SlotView). s.generation) none in
+        let never : has_tenant c.named v slot ≡ false =
+        ap (λ g. nat_lt slot c.named || nat_lt 0 g) generation ∙ unnamed slot (omega (arith, past, slots, named)) in
+        absurd (not_both (has_tenant c.named v slot) e never)
   ]
     where
       unnamed : (n : ℕ) → c.named ≤ n → nat_lt n c.named || nat_lt 0 0 ≡ false
@@ -317,19 +319,22 @@ module _ (c : ServiceConfig) (named : c.named ≤ length c.scheduler.weights) wh
   admits v w x = record {
     slots = x.slots;
     room = λ h.
-      let within = there v w x h.slots in
-      record {
-        slots = x.slots ∙ h.slots;
-        known =
-          subst (λ n. All (IsBelow n) w.admitted) (sym x.slots)
-          (subst (All (IsBelow (length v.slots))) (sym x.admitted)
-            (All-append (IsBelow (length v.slots)) v.admitted (x.q ∷ []) h.known
+        let within = there v w x h.slots in
+        record {
+          slots = x.slots ∙ h.slots;
+          known =
+              subst (λ n. All (IsBelow n) w.admitted) (sym x.slots)
+              (subst (All (IsBelow (length v.slots))) (sym x.admitted)
+              (All-append (IsBelow (length v.slots)) v.admitted (x.q ∷ []) h.known
               (All-cons (IsBelow (length v.slots)) x.q [] within (All-nil (IsBelow (length v.slots))))));
-        steps = Enters x.q.slot ∷ h.steps;
-        run = (h.run, subst (λ r. rooms.MayStep r (Enters x.q.slot)) (sym h.room)
-          (omega (arith, within, size_is c v), x.enters));
-        room = ap (λ r. entered r x.q.slot) h.room ∙ sym (room_entered v w x h.slots);
-      };
+          steps = Enters x.q.slot ∷ h.steps;
+          run = (
+            h.run,
+            subst (λ r. rooms.MayStep r (Enters x.q.slot)) (sym h.room)
+                (omega (arith, within, size_is c v), x.enters),
+          );
+          room = ap (λ r. entered r x.q.slot) h.room ∙ sym (room_entered v w x h.slots);
+        };
   }
 
   pub is_closed : IsClosed c KeepsRoom
