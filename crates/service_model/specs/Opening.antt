@@ -16,11 +16,10 @@ least_entries C = 8 * C.requests + 4 * C.workers
 
 -- the faults beside those of the scheduler's configuration, in their order
 abbrev pub own_faults : ServiceConfig → List (Bool × ServiceFault)
-own_faults c =
-    (
-      nat_lt c.scheduler.entries (least_entries c.scheduler),
-      fault.Entries c.scheduler.entries (least_entries c.scheduler),
-    )
+own_faults c = (
+  nat_lt c.scheduler.entries (least_entries c.scheduler),
+  fault.Entries c.scheduler.entries (least_entries c.scheduler),
+)
     ∷ (nat_lt (length c.scheduler.weights) c.named, fault.Named c.named)
     ∷ (not (length c.kind_most_running == c.scheduler.kinds), fault.KindLimits (length c.kind_most_running))
     ∷ (nat_lt 1000000 c.idle_ppm, fault.IdlePart c.idle_ppm)
