@@ -7,6 +7,7 @@ use Rattle.waiting_room.specs.declared.refusal.Refusal.{Refusal}
 use Rattle.waiting_room.specs.declared.refusal.Refusal.TheVariants as room
 use Rattle.waiting_room.specs.Room.{refusal}
 use Rattle.fq_model.specs.declared.event.Call.{Call}
+use Rattle.fq_model.specs.declared.event.Call.TheVariants as call_of
 use Rattle.fq_model.specs.declared.event.Cause.TheVariants as cause
 use Rattle.fq_model.specs.declared.event.Reply.{Reply}
 use Rattle.fq_model.specs.declared.event.Reply.TheVariants as answer
@@ -35,9 +36,9 @@ use Rattle.service_model.specs.Deadlines.{is_late as late_at, has_late, Withdraw
 use Rattle.service_model.specs.Granting.{may_grant, Grants, AsksWorkers, Rests, AnswersNext, with_declining, is_visitor}
 use Rattle.service_model.specs.Answers.{coming, AnswersAt, Answers, moment_of_call}
 use Rattle.service_laws.proofs.Lists.{either}
-use Rattle.service_laws.proofs.Refreshed.{made_now, made_at, reported, refreshed}
+use Rattle.service_laws.proofs.Refreshed.{SameRequests, requests_stay, made_now, made_at, reported, refreshed}
 use Rattle.service_laws.proofs.Rolled.{IsBlind, with_room_slots, with_room_count}
-use Rattle.service_laws.proofs.Moves.{Becomes, Stays, Admits, IsClosed, end_stays, first_of_both, same, equal, onto, with_room, turned, releases, withdraws, cancels}
+use Rattle.service_laws.proofs.Moves.{Becomes, Stays, Admits, IsClosed, making, end_stays, first_of_both, equal, onto, with_room, turned, releases, withdraws, cancels}
 
 -- ---- the room of a service whose requests got other numbers
 
@@ -105,6 +106,7 @@ let_in c v m generation q e =
 abbrev pub admits_of : (c : ServiceConfig) (v : ServiceView) (m : ℕ) (q : Admitted) (next : Standing) → IsLetIn c v q
     → is_waiting (record q { stands = next }) ≡ true → Admits c v (with_admitted v m (record q { stands = next }))
 admits_of c v m q next known waits = record {
+  schedulers = record { present = refl; former = refl };
   q = record q { stands = next };
   has_tenant = known.has_tenant;
   enters = known.enters;
@@ -210,7 +212,7 @@ module _ (c : ServiceConfig) (R : ServiceView → ServiceView → Type 0) (k : I
       (by_change x.reply wanted change x.made o w stay x.answered)
 
   joined_stays : (slot : ℕ) (u : ServiceView) → Stays u (joined c slot u)
-  joined_stays slot u = record { admitted = refl; slots = length-set u.slots slot _ }
+  joined_stays slot u = record { schedulers = record { present = refl; former = refl }; admitted = refl; slots = length-set u.slots slot _ }
 
   joins_first : (m : ℕ) (v : ServiceView) (weight : ℕ) (slots : List ℕ) (o : ServiceOutcome) (w : ServiceView)
       → JoinsFirst c m v weight slots o w → R v w
@@ -234,8 +236,8 @@ module _ (c : ServiceConfig) (R : ServiceView → ServiceView → Type 0) (k : I
       let u : ServiceView = with_standing v x.ticket x.q (Runs later) in
       k.joins v u w
       (turned c R k v u x.ticket x.q (Runs later) x.runs.admitted
-      (subst (λ s. Becomes s (Runs later)) (sym x.runs.stands) refl) refl refl)
-      (same c R k u w (reported c m u x.run used w x.reports))
+      (subst (λ s. Becomes s (Runs later)) (sym x.runs.stands) refl) (record { present = refl; former = refl }) refl refl)
+      (reported R (making c R k) c m u x.run used w x.reports)
 
   uses : (m : ℕ) (v : ServiceView) (worker cost : ℕ) (o : ServiceOutcome) (w : ServiceView)
       → AnswersUsed c m v worker cost o w → R v w
@@ -255,20 +257,21 @@ module _ (c : ServiceConfig) (R : ServiceView → ServiceView → Type 0) (k : I
 
   finishes : (m : ℕ) (v : ServiceView) (worker cost : ℕ) (w : ServiceView) → Finishes c m v worker cost w → R v w
   finishes m v worker cost w x =
-      let made = made_at v x.run.scheduler _ _ x.made x.makes in
-      let there = ap (λ l. slice_get l x.ticket) made.admitted ∙ x.runs.admitted in
       let cost_is : ℕ = cost_at_end v x.run cost in
+      let asked = call_of.Done worker m worker cost_is in
+      let made = made_at SameRequests requests_stay v x.run.scheduler asked answer.Accepted x.made x.makes in
+      let there = ap (λ l. slice_get l x.ticket) made.admitted ∙ x.runs.admitted in
       let t : ServiceView = record (with_standing x.made x.ticket x.q Ended) {
         reserve = with_end x.made.reserve (finished m x.run cost_is);
       } in
       let ended : R x.made x.ended =
       onto c R k x.made (with_ended m x.made x.ticket x.q x.run cost_is) x.ended
       (k.joins x.made t (with_ended m x.made x.ticket x.q x.run cost_is)
-      (turned c R k x.made t x.ticket x.q Ended there (subst (λ s. Becomes s Ended) (sym x.runs.stands) tt) refl refl)
+      (turned c R k x.made t x.ticket x.q Ended there (subst (λ s. Becomes s Ended) (sym x.runs.stands) tt) (record { present = refl; former = refl }) refl refl)
       (k.stays t (with_end_of t x.q.slot) (end_stays t x.q.slot)))
       x.ended_is in
       let released : R v x.released =
-      k.joins v x.made x.released (same c R k v x.made made)
+      k.joins v x.made x.released (made_at R (making c R k) v x.run.scheduler asked answer.Accepted x.made x.makes)
       (k.joins x.made x.ended x.released ended (releases c R k m x.q.slot x.ended x.released x.releases)) in
       k.joins v x.released w released
       (either (runs_before v && not (runs_before x.ended)) _ _ (R x.released w)
@@ -280,7 +283,9 @@ module _ (c : ServiceConfig) (R : ServiceView → ServiceView → Type 0) (k : I
 
   grants : (m : ℕ) (v : ServiceView) (worker : ℕ) (o : ServiceOutcome) (w : ServiceView) → Grants m v worker o w → R v w
   grants m v worker o w x =
-      let made = made_now v _ _ x.made x.makes in
+      let asked = call_of.Take worker m worker in
+      let reply = answer.Run x.request x.estimate x.q.label in
+      let made = made_now v asked reply x.made x.makes in
       let there = ap (λ l. slice_get l x.ticket) made.admitted ∙ x.admitted in
       let run : Run = record {
         scheduler = v.rolls;
@@ -293,22 +298,22 @@ module _ (c : ServiceConfig) (R : ServiceView → ServiceView → Type 0) (k : I
       } in
       let u : ServiceView = record (with_standing x.made x.ticket x.q (Runs run)) { declining = 0 } in
       k.joins v x.made w
-      (same c R k v x.made made)
+      (k.makes_now v asked reply x.made x.makes)
       (onto c R k x.made u w
-      (turned c R k x.made u x.ticket x.q (Runs run) there (subst (λ s. Becomes s (Runs run)) (sym x.stands) tt) refl refl)
+      (turned c R k x.made u x.ticket x.q (Runs run) there (subst (λ s. Becomes s (Runs run)) (sym x.stands) tt) (record { present = refl; former = refl }) refl refl)
       x.after)
 
   rests : (m : ℕ) (v : ServiceView) (declining : ℕ) (o : ServiceOutcome) (w : ServiceView) → Rests m v declining o w
       → R v w
   rests m v declining o w x =
       onto c R k v (with_declining v m declining) w
-      (k.stays v (with_declining v m declining) (record { admitted = refl; slots = refl }))
+      (k.stays v (with_declining v m declining) (record { schedulers = record { present = refl; former = refl }; admitted = refl; slots = refl }))
       x.1
 
   asks : (m : ℕ) (v : ServiceView) (o : ServiceOutcome) (w : ServiceView) → AsksWorkers c m v o w → R v w
   asks m v o w x =
       k.joins v x.fresh w
-      (same c R k v x.fresh (refreshed c m v x.fresh x.refreshes))
+      (refreshed R (making c R k) c m v x.fresh x.refreshes)
       (elim x.asks [
         | inl takes ↦ grants m x.fresh takes.worker o w takes.grants
         | inr all ↦ rests m x.fresh _ o w all.1
@@ -321,7 +326,7 @@ module _ (c : ServiceConfig) (R : ServiceView → ServiceView → Type 0) (k : I
   is_late m v o w x =
       let u : ServiceView = record v { declining = 0 } in
       k.joins v u w
-      (k.stays v u (record { admitted = refl; slots = refl }))
+      (k.stays v u (record { schedulers = record { present = refl; former = refl }; admitted = refl; slots = refl }))
       (withdraws c R k m u x.ticket x.q w x.first.late.admitted (is_late_waits x.q m x.first.late.late) x.withdraws)
 
   nexts : (m : ℕ) (v : ServiceView) (o : ServiceOutcome) (w : ServiceView) → AnswersNext c m v o w → R v w
@@ -354,30 +359,30 @@ module _ (c : ServiceConfig) (R : ServiceView → ServiceView → Type 0) (k : I
       refused_or (join_cause c v weight) v o w _ (joins_first m v weight (joinable c v) o w) x
   at m v (call.Weight moment slot weight) o w x =
       refused_or (weight_cause c v slot weight) v o w _
-      (changes m v _ told.Accepted (λ u. u) o w (λ u. record { admitted = refl; slots = refl }))
+      (changes m v _ told.Accepted (λ u. u) o w (λ u. record { schedulers = record { present = refl; former = refl }; admitted = refl; slots = refl }))
       x
   at m v (call.Limit moment slot most) o w x =
       refused_or (limit_cause v slot) v o w (AnswersLimit c m v slot most o w)
       (λ y.
       let u : ServiceView = with_slot v slot (record (slot_at v slot) { limit = most }) in
       k.joins v u w
-      (k.stays v u (record { admitted = refl; slots = length-set v.slots slot _ }))
+      (k.stays v u (record { schedulers = record { present = refl; former = refl }; admitted = refl; slots = length-set v.slots slot _ }))
       (releases c R k m slot u w y.1))
       x
   at m v (call.Workers moment count) o w x =
       refused_or (workers_cause c v count) v o w _
-      (changes m v _ told.Accepted (with_count count) o w (λ u. record { admitted = refl; slots = refl }))
+      (changes m v _ told.Accepted (with_count count) o w (λ u. record { schedulers = record { present = refl; former = refl }; admitted = refl; slots = refl }))
       x
   at m v (call.Close moment) o w x =
       let u : ServiceView = record v { is_closed = true } in
       refused_or (close_cause v) v o w _
-      (λ y. onto c R k v u w (k.stays v u (record { admitted = refl; slots = refl })) y.1)
+      (λ y. onto c R k v u w (k.stays v u (record { schedulers = record { present = refl; former = refl }; admitted = refl; slots = refl })) y.1)
       x
 
   closes : (m : ℕ) (v w : ServiceView) → ClosesScheduler c m v w → R v w
   closes m v w =
       either (is_close_due v) _ _ (R v w)
-      (λ _ x. same c R k v w (made_now v _ _ w x))
+      (λ _ x. k.makes_now v _ _ w x)
       (λ _ x. equal c R k v w x)
 
   -- an answer is moves, one after another
@@ -387,5 +392,5 @@ module _ (c : ServiceConfig) (R : ServiceView → ServiceView → Type 0) (k : I
       let m : ℕ = moment_of_call v asked in
       let u : ServiceView = at_moment v m in
       k.joins v u w
-      (k.stays v u (record { admitted = refl; slots = refl }))
+      (k.stays v u (record { schedulers = record { present = refl; former = refl }; admitted = refl; slots = refl }))
       (k.joins u x.answered w (at m u asked o x.answered x.answers) (closes m x.answered w x.closes))

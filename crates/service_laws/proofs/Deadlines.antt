@@ -17,7 +17,7 @@ use Rattle.service_model.specs.Runs.{granted_by, is_ticket, moment_of_step}
 use Rattle.service_model.specs.Laws.{NoGrantIsLate}
 use Rattle.service_laws.proofs.Lists.{either, none_passes, second_false, some_same}
 use Rattle.service_laws.proofs.Outcomes.{IsPlain, plainly}
-use Rattle.service_laws.proofs.Refreshed.{refreshed}
+use Rattle.service_laws.proofs.Refreshed.{SameRequests, refreshed, requests_stay}
 
 -- the outcome grants the request of this ticket, which waits in v, and whose deadline is not before m
 record GrantsInTime (v : ServiceView) (m ticket : ℕ) : Type 0 where
@@ -64,7 +64,7 @@ module _ (c : ServiceConfig) (m : ℕ) (v : ServiceView) (o : ServiceOutcome) (w
 
   by_asking : has_late v m ≡ false → AsksWorkers c m v o w → is_ticket ticket (granted_by o) ≡ true → InTime
   by_asking none x is = elim x.asks [
-    | inl takes ↦ by_grant none x.fresh (refreshed c m v x.fresh x.refreshes).admitted takes.worker takes.grants is
+    | inl takes ↦ by_grant none x.fresh (refreshed SameRequests requests_stay c m v x.fresh x.refreshes).admitted takes.worker takes.grants is
     | inr rests ↦ absurd (none_granted ticket o (ap granted_by rests.1.0) is)
   ]
 

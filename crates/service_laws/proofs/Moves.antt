@@ -12,12 +12,12 @@ use Rattle.service_model.specs.declared.outcome.ServiceOutcome.{ServiceOutcome}
 use Rattle.service_model.specs.View.{Standing, Held, Forwarded, Runs, Ended, Withdrawn, Admitted, ServiceView, stands_held, stands_forwarded, is_held, is_forwarded, is_waiting, is_open, of_slot, has_any, has_tenant, with_standing, runs_before}
 use Rattle.service_model.specs.Idling.{with_idle, with_end_of}
 use Rattle.service_model.specs.Room.{room_of}
-use Rattle.service_model.specs.Scheduling.{lacks_room}
-use Rattle.service_model.specs.Rolling.{submit_call, withdraw_call, MakesOnNext, MakesWithRoom}
+use Rattle.service_model.specs.Scheduling.{MakesNow, MakesBefore, lacks_room}
+use Rattle.service_model.specs.Rolling.{RollsOver, submit_call, withdraw_call, MakesOnNext, MakesWithRoom}
 use Rattle.service_model.specs.Limits.{may_go, next_to_go, Forwards, ReleasesThese, Releases}
 use Rattle.service_model.specs.Withdrawing.{without, WithdrawsForwarded, Withdraws, CancelsKnown}
 use Rattle.service_laws.proofs.Lists.{either}
-use Rattle.service_laws.proofs.Refreshed.{SameRequests, itself, same_as, made_now}
+use Rattle.service_laws.proofs.Refreshed.{IsMaking, made_now}
 use Rattle.service_laws.proofs.Rolled.{Renumbers, rolled, with_room_still}
 
 -- ---- the moves
@@ -32,13 +32,20 @@ Becomes (Runs run) (Runs later) = later.worker ≡ run.worker
 Becomes (Runs run) Ended = Unit {0}
 Becomes _ _ = ⊥
 
--- all requests stand as before
+-- both services have the same schedulers
+pub record SameSchedulers (v w : ServiceView) : Type 0 where
+  pub present : w.present ≡ v.present
+  pub former : w.former ≡ v.former
+
+-- all requests stand as before, and no scheduler is called
 pub record Stays (v w : ServiceView) : Type 0 where
+  pub schedulers : SameSchedulers v w
   pub admitted : w.admitted ≡ v.admitted
   pub slots : length w.slots ≡ length v.slots
 
 -- one stands elsewhere
 pub record Turns (v w : ServiceView) : Type 0 where
+  pub schedulers : SameSchedulers v w
   pub ticket : ℕ
   pub q : Admitted
   pub there : slice_get v.admitted ticket ≡ Some q
@@ -49,6 +56,7 @@ pub record Turns (v w : ServiceView) : Type 0 where
 
 -- one more waits, to which the room does not refuse a place
 pub record Admits (c : ServiceConfig) (v w : ServiceView) : Type 0 where
+  pub schedulers : SameSchedulers v w
   pub q : Admitted
   pub has_tenant : has_tenant c.named v q.slot ≡ true
   pub enters : refusal (room_of c v) q.slot ≡ None
@@ -60,19 +68,21 @@ pub record Admits (c : ServiceConfig) (v w : ServiceView) : Type 0 where
 pub record IsClosed (c : ServiceConfig) (R : ServiceView → ServiceView → Type 0) : Type 0 where
   pub joins : (v u w : ServiceView) → R v u → R u w → R v w
   pub stays : (v w : ServiceView) → Stays v w → R v w
-  pub renumbers : (v w : ServiceView) → Renumbers v w → R v w
+  pub makes_now : (v : ServiceView) (asked : Call) (r : Reply) (w : ServiceView) → MakesNow v asked r w → R v w
+  pub makes_before : (v : ServiceView) (asked : Call) (r : Reply) (w : ServiceView) → MakesBefore v asked r w → R v w
+  pub rolls_over : (m : ℕ) (v w : ServiceView) → RollsOver c m v w → R v w
   pub turns : (v w : ServiceView) → Turns v w → R v w
   pub admits : (v w : ServiceView) → Admits c v w → R v w
 
 -- ---- what a slot's idling changes
 
 same_if : (b : Bool) (x y : ServiceView) → Stays x y → Stays x (if b then x else y)
-same_if true x y same = record { admitted = refl; slots = refl }
+same_if true x y same = record { schedulers = record { present = refl; former = refl }; admitted = refl; slots = refl }
 same_if false x y same = same
 
 pub end_stays : (v : ServiceView) (slot : ℕ) → Stays v (with_end_of v slot)
 end_stays v slot =
-    same_if (has_any v (of_slot slot is_open)) v (with_idle v slot) (record { admitted = refl; slots = refl })
+    same_if (has_any v (of_slot slot is_open)) v (with_idle v slot) (record { schedulers = record { present = refl; former = refl }; admitted = refl; slots = refl })
 
 waits_becomes : (s : Standing) → stands_held s || stands_forwarded s ≡ true → Becomes s Withdrawn
 waits_becomes Held e = tt
@@ -113,11 +123,18 @@ next_is_held c v slot ticket q next at =
     second_of_both (q.slot == slot) (is_held q) (first_of_both (of_slot slot is_held q) _ goes)
 
 module _ (c : ServiceConfig) (R : ServiceView → ServiceView → Type 0) (k : IsClosed c R) where
-  pub same : (v w : ServiceView) → SameRequests v w → R v w
-  same v w s = k.stays v w (record { admitted = s.admitted; slots = ap length s.slots })
-
   pub equal : (v w : ServiceView) → w ≡ v → R v w
-  equal v w e = same v w (same_as v v w (itself v) e)
+  equal v w e = k.stays v w (record {
+    schedulers = record {
+      present = ap (λ (u : ServiceView). u.present) e;
+      former = ap (λ (u : ServiceView). u.former) e;
+    };
+    admitted = ap (λ (u : ServiceView). u.admitted) e;
+    slots = ap (λ (u : ServiceView). length u.slots) e;
+  })
+
+  pub making : IsMaking R
+  making = record { joins = k.joins; equal = equal; now = k.makes_now; before = k.makes_before }
 
   -- then a service that is this one
   pub onto : (v u w : ServiceView) → R v u → w ≡ u → R v w
@@ -128,15 +145,17 @@ module _ (c : ServiceConfig) (R : ServiceView → ServiceView → Type 0) (k : I
   with_room m v asked r w =
       either (lacks_room v.present asked && not (runs_before v)) (MakesOnNext c m v asked r w) _ (R v w)
       (λ _ x. k.joins v x.rolled w
-      (k.renumbers v x.rolled (rolled c m v x.rolled x.rolls_over))
-      (same x.rolled w (made_now x.rolled asked r w x.makes)))
-      (λ _ x. same v w (made_now v asked r w x))
+      (k.rolls_over m v x.rolled x.rolls_over)
+      (k.makes_now x.rolled asked r w x.makes))
+      (λ _ x. k.makes_now v asked r w x)
 
   -- the request of this ticket stands elsewhere, and then the service is u but for what else changes
   pub turned : (v u : ServiceView) (ticket : ℕ) (q : Admitted) (next : Standing)
       → slice_get v.admitted ticket ≡ Some q → Becomes q.stands next
-      → u.admitted ≡ slice_set v.admitted ticket (record q { stands = next }) → length u.slots ≡ length v.slots → R v u
-  turned v u ticket q next at becomes is slots = k.turns v u (record {
+      → SameSchedulers v u → u.admitted ≡ slice_set v.admitted ticket (record q { stands = next })
+      → length u.slots ≡ length v.slots → R v u
+  turned v u ticket q next at becomes schedulers is slots = k.turns v u (record {
+    schedulers = schedulers;
     ticket = ticket;
     q = q;
     there = at;
@@ -155,7 +174,7 @@ module _ (c : ServiceConfig) (R : ServiceView → ServiceView → Type 0) (k : I
       onto v u w
       (k.joins v x.made u
       (with_room m v (submit_call c m x.q) (answer.Request x.request) x.made x.makes)
-      (turned x.made u ticket x.q (Forwarded x.request) at (held_becomes x.q.stands x.request held) refl refl))
+      (turned x.made u ticket x.q (Forwarded x.request) at (held_becomes x.q.stands x.request held) (record { present = refl; former = refl }) refl refl))
       x.after
 
   releases_these : (m slot : ℕ) (tickets : List ℕ) (v w : ServiceView) → ReleasesThese c m slot tickets v w → R v w
@@ -175,7 +194,7 @@ module _ (c : ServiceConfig) (R : ServiceView → ServiceView → Type 0) (k : I
   left v ticket q at waits =
       let u : ServiceView = with_standing v ticket q Withdrawn in
       k.joins v u (without v ticket q)
-      (turned v u ticket q Withdrawn at (waits_becomes q.stands waits) refl refl)
+      (turned v u ticket q Withdrawn at (waits_becomes q.stands waits) (record { present = refl; former = refl }) refl refl)
       (k.stays u (without v ticket q) (end_stays u q.slot))
 
   pub withdraws : (m : ℕ) (v : ServiceView) (ticket : ℕ) (q : Admitted) (w : ServiceView)
@@ -183,10 +202,11 @@ module _ (c : ServiceConfig) (R : ServiceView → ServiceView → Type 0) (k : I
   withdraws m v ticket q w at waits =
       either (is_forwarded q) (WithdrawsForwarded c m v ticket q w) _ (R v w)
       (λ _ x.
-      let now = made_now v (withdraw_call c m q) (answer.Withdrawn q.label) x.made x.makes in
-      let there = ap (λ l. slice_get l ticket) now.admitted ∙ at in
+      let asked = withdraw_call c m q in
+      let reply = answer.Withdrawn q.label in
+      let there = ap (λ l. slice_get l ticket) (made_now v asked reply x.made x.makes).admitted ∙ at in
       k.joins v x.made w
-      (same v x.made now)
+      (k.makes_now v asked reply x.made x.makes)
       (k.joins x.made (without x.made ticket q) w
       (left x.made ticket q there waits)
       (releases m q.slot (without x.made ticket q) w x.releases)))

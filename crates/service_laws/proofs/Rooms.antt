@@ -18,7 +18,8 @@ use Rattle.service_model.specs.View.{Standing, Held, Forwarded, Runs, Ended, Wit
 use Rattle.service_model.specs.Rolling.{renumbered}
 use Rattle.service_model.specs.Room.{room_of, waiting_in}
 use Rattle.service_laws.proofs.Lists.{not_both}
-use Rattle.service_laws.proofs.Rolled.{Renumbers, counted}
+use Rattle.service_laws.proofs.Refreshed.{SameRequests, made_now, made_before}
+use Rattle.service_laws.proofs.Rolled.{rolled, Renumbers, counted}
 use Rattle.service_laws.proofs.Moves.{Becomes, Stays, Turns, Admits, IsClosed}
 use Rattle.service_laws.proofs.Calls.{waiting_is_blind}
 
@@ -230,6 +231,12 @@ module _ (c : ServiceConfig) (named : c.named ≤ length c.scheduler.weights) wh
       ∙ counted (of_slot slot is_waiting) (waiting_is_blind slot) 0 v.admitted))
       (λ all. subst (All (IsBelow (length v.slots))) (sym x.admitted) (known_renumbered 0 (length v.slots) v.admitted all))
 
+  same_requests : (v w : ServiceView) → SameRequests v w → KeepsRoom v w
+  same_requests v w x =
+      same_room v w (ap length x.slots)
+      (room_same c v w (ap length x.slots) (λ slot. ap (count_by (of_slot slot is_waiting)) x.admitted))
+      (subst (All (IsBelow (length v.slots))) (sym x.admitted))
+
   joins : (v u w : ServiceView) → KeepsRoom v u → KeepsRoom u w → KeepsRoom v w
   joins v u w a b = record { slots = b.slots ∙ a.slots; room = λ h. b.room (a.room h) }
 
@@ -338,4 +345,12 @@ module _ (c : ServiceConfig) (named : c.named ≤ length c.scheduler.weights) wh
   }
 
   pub is_closed : IsClosed c KeepsRoom
-  is_closed = record { joins = joins; stays = stays; renumbers = renumbers; turns = turns; admits = admits }
+  is_closed = record {
+    joins = joins;
+    stays = stays;
+    makes_now = λ v asked r w x. same_requests v w (made_now v asked r w x);
+    makes_before = λ v asked r w x. same_requests v w (made_before v asked r w x);
+    rolls_over = λ m v w x. renumbers v w (rolled c m v w x);
+    turns = turns;
+    admits = admits;
+  }
