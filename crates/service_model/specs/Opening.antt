@@ -1,5 +1,5 @@
 -- The first fault of a configuration, and a service that was just opened.
-use Rattle.std.specs.Prelude.{ℕ, ◌+◌, ◌*◌, ◌==◌, not, false, nat_lt, [], ◌∷◌, length, replicate, Option, Some, None}
+use Rattle.std.specs.Prelude.{ℕ, ◌+◌, ◌*◌, ◌==◌, not, false, nat_lt, Bool, List, [], ◌∷◌, length, replicate, Option, Some, None}
 use Rattle.std.specs.List.{range_with_len}
 use Rattle.fq_model.specs.declared.config.Config.{Config}
 use Rattle.fq_model.specs.declared.config.ConfigFault.{ConfigFault}
@@ -14,17 +14,20 @@ use Rattle.service_model.specs.View.{Scheduler, ServiceView}
 abbrev pub least_entries : Config → ℕ
 least_entries C = 8 * C.requests + 4 * C.workers
 
--- the first fault beside those of the scheduler's configuration
-abbrev pub own_fault : ServiceConfig → Option ServiceFault
-own_fault c = first_true
-    ((
-      nat_lt c.scheduler.entries (least_entries c.scheduler),
-      fault.Entries c.scheduler.entries (least_entries c.scheduler),
-    )
+-- the faults beside those of the scheduler's configuration, in their order
+abbrev pub own_faults : ServiceConfig → List (Bool × ServiceFault)
+own_faults c = (
+  nat_lt c.scheduler.entries (least_entries c.scheduler),
+  fault.Entries c.scheduler.entries (least_entries c.scheduler),
+)
     ∷ (nat_lt (length c.scheduler.weights) c.named, fault.Named c.named)
     ∷ (not (length c.kind_most_running == c.scheduler.kinds), fault.KindLimits (length c.kind_most_running))
     ∷ (nat_lt 1000000 c.idle_ppm, fault.IdlePart c.idle_ppm)
-    ∷ [])
+    ∷ []
+
+-- the first of them that holds, if there is one
+abbrev pub own_fault : ServiceConfig → Option ServiceFault
+own_fault c = first_true (own_faults c)
 
 abbrev pub first_fault : Option ConfigFault → Option ServiceFault → Option ServiceFault
 first_fault None others = others

@@ -1,5 +1,5 @@
 -- The answer to a submit: who is admitted, and whether it is forwarded at once or held.
-use Rattle.std.specs.Prelude.{ℕ, ◌==◌, nat_lt, nat_le, Bool, true, false, not, ◌||◌, ◌&&◌, if◌then◌else◌, [], ◌∷◌, ◌++◌, length, Option, Some, None, MatchBool}
+use Rattle.std.specs.Prelude.{ℕ, ◌==◌, nat_lt, nat_le, Bool, true, false, not, ◌||◌, ◌&&◌, if◌then◌else◌, List, [], ◌∷◌, ◌++◌, length, Option, Some, None, MatchBool}
 use Rattle.vt_fixed.specs.declared.limits.TheConstants.{GREATEST_COST}
 use Rattle.fq_model.specs.declared.event.Cause.TheVariants as cause
 use Rattle.fq_model.specs.declared.event.Reply.{Reply}
@@ -42,10 +42,11 @@ moment_of_deadline (Some deadline) = deadline
 abbrev pub has_generation : ServiceConfig → ServiceView → ℕ → ℕ → Bool
 has_generation c v slot generation = has_tenant c.named v slot && ((slot_at v slot).generation == generation)
 
--- why a submit is refused at m, but for want of room in the scheduler, if it is: the request would be q
-abbrev pub submit_cause : ServiceConfig → ServiceView → ℕ → ℕ → Admitted → Option ServiceRefusal
-submit_cause c v m generation q = first_true
-    ((v.is_closed, cause_of.Closed)
+-- the causes for which a submit is refused at m, in their order, but for want of room in the scheduler: the request would
+-- be q
+abbrev pub submit_causes : ServiceConfig → ServiceView → ℕ → ℕ → Admitted → List (Bool × ServiceRefusal)
+submit_causes c v m generation q =
+    (v.is_closed, cause_of.Closed)
     ∷ (not (has_generation c v q.slot generation), cause_of.Tenant q.slot)
     ∷ (nat_le c.scheduler.kinds q.kind, cause_of.Kind q.kind)
     ∷ ((q.declared == 0) || nat_lt GREATEST_COST q.declared, cause_of.Cost q.declared)
@@ -53,7 +54,11 @@ submit_cause c v m generation q = first_true
     ∷ (is_too_many (refusal (room_of c v) q.slot), cause_of.TooManyWait)
     ∷ (is_tenant_full (refusal (room_of c v) q.slot), cause_of.TenantFull)
     ∷ (nat_le MOST_TICKETS (length v.admitted), cause_of.Full)
-    ∷ [])
+    ∷ []
+
+-- the first of them that holds, if there is one
+abbrev pub submit_cause : ServiceConfig → ServiceView → ℕ → ℕ → Admitted → Option ServiceRefusal
+submit_cause c v m generation q = first_true (submit_causes c v m generation q)
 
 -- the slot after the admission of a request at m: where nothing of its tenant waits the tenant begins to wait
 abbrev pub slot_after : ServiceView → ℕ → ℕ → SlotView

@@ -1,0 +1,12 @@
+pub mod Lists
+pub mod Outcomes
+pub mod Refreshed
+pub mod Rolled
+pub mod Deadlines
+pub mod Rest
+pub mod Moves
+pub mod Calls
+pub mod Rooms
+pub mod RoomLaws
+pub mod Admissions
+pub mod Floods
