@@ -12,6 +12,16 @@ held_of i = record { ticket = i.job; place = i.request }
 abbrev pub held_lists : List (List (Item ℕ)) → List (List Held)
 held_lists lists = map (λ list. map held_of list) lists
 
+-- what contracts see of the limits and counts, by kind, by slot and by cell, and of the lists of held requests
+abbrev pub view_of : List ℕ → List ℕ → List ℕ → ListsView ℕ → LimitsView
+view_of kind_limits limits sent lists = record {
+  kind_limits = kind_limits;
+  limits = limits;
+  sent = sent;
+  held = held_lists lists.lists;
+  room = lists.slots;
+}
+
 -- each slot has a cell for each kind, and the cells are few enough to be numbered
 pub record HasCells (v : LimitsView) : Type 0 where
   pub kinds_fit : kinds v ≤ 64

@@ -28,25 +28,13 @@ pub struct RequestLimits {
 
 impl Model for RequestLimits {
     ghost use Rattle.request_limits.specs.Limits.{LimitsView};
-    ghost use Rattle.request_limits.specs.Kept.{Keeps, held_lists};
+    ghost use Rattle.request_limits.specs.Kept.{Keeps, view_of};
 
     ghost Value = { LimitsView };
 
-    ghost view = { λ l. record {
-      kind_limits = l.kind_limits.items;
-      limits = l.limits.items;
-      sent = l.sent.items;
-      held = held_lists l.held.lists;
-      room = l.held.slots;
-    } };
+    ghost view = { λ l. view_of l.kind_limits.items l.limits.items l.sent.items l.held };
 
-    ghost invariant = { λ l. Keeps (record {
-      kind_limits = l.kind_limits.items;
-      limits = l.limits.items;
-      sent = l.sent.items;
-      held = held_lists l.held.lists;
-      room = l.held.slots;
-    }) l.totals.items };
+    ghost invariant = { λ l. Keeps (view_of l.kind_limits.items l.limits.items l.sent.items l.held) l.totals.items };
 }
 
 impl RequestLimits {
