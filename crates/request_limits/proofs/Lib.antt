@@ -1,2 +1,5 @@
 pub mod Rows
 pub mod Sends
+pub mod HeldLists
+pub mod Places
+pub mod Views

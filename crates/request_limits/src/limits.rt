@@ -170,9 +170,9 @@ impl RequestLimits {
             declared: 0,
             job: held.ticket,
         };
-        if self.held.push(cell, item).is_err() {
+        let Ok(()) = self.held.push(cell, item) else {
             unreachable!();
-        }
+        };
     }
 
     /// Takes the oldest held request of this slot and kind out.
