@@ -3,3 +3,5 @@ pub mod Sends
 pub mod HeldLists
 pub mod Places
 pub mod Views
+pub mod Removed
+pub mod Searches

@@ -4,7 +4,7 @@ use Rattle.std.proofs.lemmas.Bool.{cases_Bool, cond-true, cond-false, eq-eqb, eq
 use Rattle.std.proofs.lemmas.List.{length-set}
 use Rattle.std.proofs.lemmas.List.Sums.{sum_by-set, sum_by-cons, sum_by-append, sum_by_push}
 use Rattle.request_limits.specs.declared.held.Held.{Held}
-use Rattle.request_limits.specs.Limits.{LimitsView, HasCell, cell_of, held_in, all_at, count_at, IsFree, with_held, with_youngest, without_oldest}
+use Rattle.request_limits.specs.Limits.{LimitsView, HasCell, cell_of, held_in, all_at, count_at, IsFree, with_held, with_youngest, without_oldest, IsRemoved}
 use Rattle.request_limits.specs.Kept.{HasCells, AreTotals, Keeps}
 use Rattle.request_limits.proofs.Sends.{cell_held}
 use Rattle.request_limits.proofs.HeldLists.{one_at}
@@ -34,14 +34,14 @@ module _ (v : LimitsView) (slot kind : ℕ) (cells : HasCells v) (known : HasCel
       cells = cells_with (held_in v slot kind ++ h ∷ []);
       totals_are = record { size = are.size; sums = are.sums };
       single = λ place.
-        let more = sum_by_push (one_at place) (held_in v slot kind) h in
-        let all = all_at_with place (held_in v slot kind ++ h ∷ []) in
-        elim (cases_Bool (eqb h.place place)) [
-          | inl e ↦
-            let none : all_at v place ≡ 0 = ap (all_at v) (sym (eqb-true h.place place e)) ∙ free in
-            omega (arith, none, more, all, one_small place h)
-          | inr e ↦ omega (arith, single place, more, all, cond-false {A = ℕ} (eqb h.place place) 1 0 e)
-        ];
+          let more = sum_by_push (one_at place) (held_in v slot kind) h in
+          let all = all_at_with place (held_in v slot kind ++ h ∷ []) in
+          elim (cases_Bool (eqb h.place place)) [
+            | inl e ↦
+                let none : all_at v place ≡ 0 = ap (all_at v) (sym (eqb-true h.place place e)) ∙ free in
+                omega (arith, none, more, all, one_small place h)
+            | inr e ↦ omega (arith, single place, more, all, cond-false {A = ℕ} (eqb h.place place) 1 0 e)
+          ];
     }
 
     pub keeps_fewer : (list : List Held) → ((place : ℕ) → count_at place list ≤ count_at place (held_in v slot kind)) → Keeps (with_held v slot kind list) totals
@@ -58,3 +58,20 @@ rest_fewer (h ∷ list) place = omega (arith, sum_by-cons (one_at place) h list)
 pub middle_at : (front rest : List Held) (h : Held) (place : ℕ) → count_at place (front ++ h ∷ rest) ≡ count_at place (front ++ rest) + one_at place h
 middle_at front rest h place =
     omega (arith, sum_by-append (one_at place) front (h ∷ rest), sum_by-append (one_at place) front rest, sum_by-cons (one_at place) h rest)
+
+-- where a held request is removed, its place is free
+module _ (v w : LimitsView) (place : ℕ) (h : Held) (r : IsRemoved v place h w) (totals : List ℕ) (k : Keeps v totals) where
+  counts : (p : ℕ) → count_at p (held_in v r.slot r.kind) ≡ count_at p (r.front ++ r.rest) + one_at p h
+  counts p = ap (λ list. count_at p list) r.was ∙ middle_at r.front r.rest h p
+
+  pub removed_keeps : Keeps w totals
+  removed_keeps =
+      subst (λ (u : LimitsView). Keeps u totals) (sym r.after)
+      (keeps_fewer v r.slot r.kind k.cells r.known totals k.totals_are k.single (r.front ++ r.rest) (λ p. omega (arith, counts p)))
+
+  pub removed_free : IsFree w place
+  removed_free =
+      let one : one_at place h ≡ 1 = cond-true {A = ℕ} (eqb h.place place) 1 0 (eq-eqb h.place place r.place_is) in
+      let all = all_at_with v r.slot r.kind k.cells r.known place (r.front ++ r.rest) in
+      let none : IsFree (with_held v r.slot r.kind (r.front ++ r.rest)) place = omega (arith, one, all, counts place, k.single place) in
+      subst (λ (u : LimitsView). IsFree u place) (sym r.after) none

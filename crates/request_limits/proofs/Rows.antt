@@ -33,15 +33,15 @@ module _ (K : ℕ) (xs : List ℕ) (s k : ℕ) (kind : k < K) (known : s * K + k
   pub row_other : (t n : ℕ) → t ≢ s → row K (set xs (s * K + k) n) t ≡ row K xs t
   row_other t n ne = elim (cases_lt t s) [
     | inl before ↦
-      let after : t * K + K ≤ s * K = row_fits t K s K before (omega arith) in
-      let j : ℕ = s * K + k - t * K in
-      let place : t * K + j ≡ s * K + k = omega arith in
-      ap (λ i. row K (set xs i n) t) (sym place)
-      ∙ ap (λ ys. take K ys) (drop-set-add (t * K) xs j n)
-      ∙ take-set-le K (drop (t * K) xs) j n (omega arith)
+        let after : t * K + K ≤ s * K = row_fits t K s K before (omega arith) in
+        let j : ℕ = s * K + k - t * K in
+        let place : t * K + j ≡ s * K + k = omega arith in
+        ap (λ i. row K (set xs i n) t) (sym place)
+        ∙ ap (λ ys. take K ys) (drop-set-add (t * K) xs j n)
+        ∙ take-set-le K (drop (t * K) xs) j n (omega arith)
     | inr behind ↦
-      let before : s * K + K ≤ t * K = row_fits s K t K (omega arith) (omega arith) in
-      ap (λ ys. take K ys) (drop-set-lt (t * K) xs (s * K + k) n (omega arith))
+        let before : s * K + K ≤ t * K = row_fits s K t K (omega arith) (omega arith) in
+        ap (λ ys. take K ys) (drop-set-lt (t * K) xs (s * K + k) n (omega arith))
   ]
 
 pub row_of_zeros : (K slots s : ℕ) → s < slots → sum (row K (replicate (slots * K) 0) s) ≡ 0

@@ -41,10 +41,10 @@ module _ (v : LimitsView) (slot kind : ℕ) (cells : HasCells v) (known : HasCel
       size = length-set totals slot m ∙ are.size;
       sums = λ t below. elim (cases_eq t slot) [
         | inl same ↦
-          subst (λ u. get_or (set totals slot m) u 0 ≡ sent_of (with_sent v slot kind n) u) (sym same)
-          (get_or-set_same totals slot m 0 (omega (arith, are.size, known.slot_known)) ∙ omega (arith, alike, sent_of_with n))
+            subst (λ u. get_or (set totals slot m) u 0 ≡ sent_of (with_sent v slot kind n) u) (sym same)
+            (get_or-set_same totals slot m 0 (omega (arith, are.size, known.slot_known)) ∙ omega (arith, alike, sent_of_with n))
         | inr ne ↦
-          get_or-set_other totals slot t m 0 ne ∙ are.sums t below ∙ sym (ap (λ ys. sum ys) (row_other (kinds v) v.sent slot kind known.kind_known cell_sent t n ne))
+            get_or-set_other totals slot t m 0 ne ∙ are.sums t below ∙ sym (ap (λ ys. sum ys) (row_other (kinds v) v.sent slot kind known.kind_known cell_sent t n ne))
       ];
     }
 

@@ -193,7 +193,7 @@ impl RequestLimits {
         ensures unchanged { IfNone result (self.new ≡ self.old) }
         ensures gone { IsFree self.new place }
     {
-        let (_cell, item) = self.held.remove(place)?;
+        let (_, item) = self.held.remove(place)?;
         Some(held_of(item))
     }
 
@@ -236,9 +236,15 @@ fn first_of(found: Option<(u32, Held)>, kind: u32, held: Option<Held>) -> Option
         → IsFoundBelow v slot (kind + 1) result }
 {
     match (found, held) {
+        (_, None) => found,
         (None, Some(held)) => Some((kind, held)),
-        (Some((_, first)), Some(held)) if held.ticket < first.ticket => Some((kind, held)),
-        _ => found,
+        (Some((_, first)), Some(held)) => {
+            if held.ticket < first.ticket {
+                Some((kind, held))
+            } else {
+                found
+            }
+        }
     }
 }
 
