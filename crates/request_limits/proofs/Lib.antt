@@ -5,3 +5,5 @@ pub mod Places
 pub mod Views
 pub mod Removed
 pub mod Searches
+pub mod Opens
+pub mod Orders

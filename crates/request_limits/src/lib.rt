@@ -6,6 +6,7 @@
 #![tactic(auto)]
 
 pub mod held;
+pub mod laws;
 pub mod limits;
 
 pub use held::Held;

@@ -1,5 +1,5 @@
 //! The limits.
-ghost use Rattle.std.specs.Prelude.{ℕ, ◌≡◌, ◌<◌, ◌≤◌, ◌+◌, ◌*◌, IfOk, IfSome, IfNone, MatchOption, length};
+ghost use Rattle.std.specs.Prelude.{ℕ, ◌≡◌, ◌<◌, ◌≤◌, ◌+◌, ◌*◌, IfOk, IfSome, IfNone, MatchOption, length, replicate};
 ghost use Rattle.request_limits.specs.Limits.{LimitsView, slots, HasCell, cell_of, limit_of, sent_in, sent_of, is_below, passes, oldest_in, goes_at_once, all_held, IsFree, with_limit, with_one_more, with_one_fewer, with_youngest, without_oldest, IsRemoved, opened};
 ghost use Rattle.request_limits.specs.Next.{may_go, NoneMayGo, IsNextToGo, IsFoundBelow};
 ghost use Rattle.request_limits.specs.Kept.{held_of};
@@ -53,9 +53,9 @@ impl RequestLimits {
         ensures { IfOk result (λ l. l ≡ opened slots kind_limits.items limit room) }
     {
         let cells = slots * kind_limits.len() as u32;
-        let limits = vec![in alloc; limit; slots as usize]?;
-        let sent = vec![in alloc; 0; cells as usize]?;
-        let totals = vec![in alloc; 0; slots as usize]?;
+        let limits = filled(alloc, slots, limit)?;
+        let sent = filled(alloc, cells, 0)?;
+        let totals = filled(alloc, slots, 0)?;
         let held = Lists::open(alloc, cells, room)?;
         Ok(RequestLimits {
             kind_limits,
@@ -228,6 +228,13 @@ impl RequestLimits {
     {
         self.held.len()
     }
+}
+
+// So many times this number.
+fn filled(alloc: Global, count: u32, number: u32) -> Result<Vec<u32>, AllocError>
+    ensures { IfOk result (λ v. v.items ≡ replicate count number) }
+{
+    vec![in alloc; number; count as usize]
 }
 
 // The first of what was found among lesser kinds, and of what may go of this one.
