@@ -1,6 +1,6 @@
 -- Held requests as the items of lists.
-use Rattle.std.proofs.Common.{ℕ, ◌≡◌, ◌≢◌, ◌+◌, ◌<◌, ◌≤◌, List, [], ◌∷◌, ◌++◌, Option, length, map, get_or, set, drop, sum_by, slice_get, option_map, zero, suc, eqb, cond, false, arith, refl, ap, sym, ◌∙◌}
-use Rattle.std.specs.List.{All, count_by}
+use Rattle.std.proofs.Common.{ℕ, ◌≡◌, ◌≢◌, ◌<◌, List, [], ◌∷◌, ◌++◌, length, map, get_or, set, drop, sum_by, slice_get, option_map, zero, suc, eqb, cond, arith, refl, ap, sym, ◌∙◌}
+use Rattle.std.specs.List.{All}
 use Rattle.std.proofs.lemmas.List.{map-set, map-append, length-map, drop-map}
 use Rattle.std.proofs.lemmas.List.Sums.{sum_by-cons}
 use Rattle.std.proofs.lemmas.List.Elements.{All-head, All-tail}

@@ -7,3 +7,4 @@ pub mod Removed
 pub mod Searches
 pub mod Opens
 pub mod Orders
+pub mod Apart

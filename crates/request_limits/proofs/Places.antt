@@ -1,11 +1,11 @@
 -- The places of held requests, as what is held changes.
-use Rattle.std.proofs.Common.{ℕ, ◌≡◌, ◌+◌, ◌-◌, ◌*◌, ◌/◌, ◌%◌, ◌<◌, ◌≤◌, List, [], ◌∷◌, ◌++◌, length, get_or, set, drop, map, sum_by, eqb, true, false, arith, refl, ap, sym, subst, ◌∙◌, inl, inr}
+use Rattle.std.proofs.Common.{ℕ, ◌≡◌, ◌+◌, ◌≤◌, List, [], ◌∷◌, ◌++◌, drop, eqb, arith, ap, sym, subst, ◌∙◌, inl, inr}
 use Rattle.std.proofs.lemmas.Bool.{cases_Bool, cond-true, cond-false, eq-eqb, eqb-true}
 use Rattle.std.proofs.lemmas.List.{length-set}
 use Rattle.std.proofs.lemmas.List.Sums.{sum_by-set, sum_by-cons, sum_by-append, sum_by_push}
 use Rattle.request_limits.specs.declared.held.Held.{Held}
-use Rattle.request_limits.specs.Limits.{LimitsView, HasCell, cell_of, held_in, all_at, count_at, IsFree, with_held, with_youngest, without_oldest, IsRemoved}
-use Rattle.request_limits.specs.Kept.{HasCells, AreTotals, Keeps}
+use Rattle.request_limits.specs.Limits.{LimitsView, HasCells, HasCell, cell_of, held_in, all_at, count_at, IsFree, with_held, with_youngest, IsRemoved}
+use Rattle.request_limits.specs.Kept.{AreTotals, Keeps}
 use Rattle.request_limits.proofs.Sends.{cell_held}
 use Rattle.request_limits.proofs.HeldLists.{one_at}
 
@@ -20,8 +20,9 @@ module _ (v : LimitsView) (slot kind : ℕ) (cells : HasCells v) (known : HasCel
   pub all_at_with : (place : ℕ) (list : List Held) → all_at (with_held v slot kind list) place + count_at place (held_in v slot kind) ≡ all_at v place + count_at place list
   all_at_with place list = sum_by-set (count_at place) v.held (cell_of v slot kind) list [] (cell_held v slot kind cells known)
 
-  cells_with : (list : List Held) → HasCells (with_held v slot kind list)
+  pub cells_with : (list : List Held) → HasCells (with_held v slot kind list)
   cells_with list = record {
+    slots_fit = cells.slots_fit;
     kinds_fit = cells.kinds_fit;
     cells_fit = cells.cells_fit;
     sent_size = cells.sent_size;

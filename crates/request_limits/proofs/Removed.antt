@@ -1,13 +1,13 @@
 -- A held request is removed from whichever list it is in.
-use Rattle.std.proofs.Common.{ℕ, ◌≡◌, ◌+◌, ◌*◌, ◌/◌, ◌%◌, ◌<◌, ◌≤◌, List, [], ◌∷◌, ◌++◌, length, map, get_or, set, arith, ap, sym, subst, ◌∙◌, inl, inr}
+use Rattle.std.proofs.Common.{ℕ, ◌≡◌, ◌*◌, ◌/◌, ◌%◌, ◌<◌, List, [], ◌∷◌, ◌++◌, map, get_or, set, arith, ap, sym, ◌∙◌, inl, inr}
 use Rattle.std.proofs.lemmas.Bool.{cases_lt}
 use Rattle.std.proofs.lemmas.List.{length-map, map-append}
 use Rattle.std.proofs.lemmas.Nat.{div_below, div-add-mod'}
 use Rattle.waiting_lists.specs.declared.item.Item.{Item}
 use Rattle.waiting_lists.specs.Lists.{ListsView, HasNone}
 use Rattle.waiting_lists.specs.Lists as lists
-use Rattle.request_limits.specs.Limits.{LimitsView, HasCell, cell_of, kinds, slots, held_in, IsFree, IsRemoved}
-use Rattle.request_limits.specs.Kept.{HasCells, view_of, held_of, held_lists}
+use Rattle.request_limits.specs.Limits.{LimitsView, HasCells, cell_of, kinds, slots, held_in, IsFree, IsRemoved}
+use Rattle.request_limits.specs.Kept.{view_of, held_of, held_lists}
 use Rattle.request_limits.proofs.HeldLists.{held_at, held_set, none_at}
 
 positive : (n s k : ℕ) → n < s * k → 0 < k

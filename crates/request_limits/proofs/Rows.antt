@@ -1,7 +1,7 @@
 -- Sums over the cells of a slot.
 use Rattle.std.proofs.Common.{ℕ, ◌≡◌, ◌≢◌, ◌+◌, ◌-◌, ◌*◌, ◌<◌, ◌≤◌, List, length, get_or, set, take, drop, replicate, sum, arith, ap, sym, ◌∙◌, inl, inr}
 use Rattle.std.proofs.lemmas.Bool.{cases_lt}
-use Rattle.std.proofs.lemmas.List.{drop-set-add, drop-set-lt, take-set-le, take_min, length-take, length-drop, get_or-take, get_or-drop, drop-replicate, take-replicate}
+use Rattle.std.proofs.lemmas.List.{drop-set-add, drop-set-lt, take-set-le, length-take, length-drop, get_or-take, get_or-drop, drop-replicate, take-replicate}
 use Rattle.std.proofs.lemmas.List.Sums.{sum_by-set, get_or-le-sum_by}
 use Rattle.std.proofs.lemmas.List.Folds.{sum_by-replicate}
 use Rattle.std.proofs.lemmas.Nat.{row_fits}

@@ -3,8 +3,8 @@ use Rattle.std.proofs.Common.{ℕ, ◌≡◌, ◌+◌, ◌-◌, ◌*◌, ◌<◌
 use Rattle.std.proofs.lemmas.Bool.{cases_eq}
 use Rattle.std.proofs.lemmas.List.{length-set, get_or-set_same, get_or-set_other, get_or_read}
 use Rattle.std.proofs.lemmas.Nat.{mul-add-lt}
-use Rattle.request_limits.specs.Limits.{LimitsView, HasCell, kinds, slots, cell_of, sent_in, sent_of, all_at, with_sent}
-use Rattle.request_limits.specs.Kept.{HasCells, AreTotals, Keeps}
+use Rattle.request_limits.specs.Limits.{LimitsView, HasCells, HasCell, kinds, slots, cell_of, sent_in, sent_of, all_at, with_sent}
+use Rattle.request_limits.specs.Kept.{AreTotals, Keeps}
 use Rattle.request_limits.proofs.Rows.{cell_le_row, row_same, row_other}
 
 module _ (v : LimitsView) (slot kind : ℕ) (cells : HasCells v) (known : HasCell v slot kind) where
@@ -26,8 +26,9 @@ module _ (v : LimitsView) (slot kind : ℕ) (cells : HasCells v) (known : HasCel
   pub sent_in_with : (n : ℕ) → sent_in (with_sent v slot kind n) slot kind ≡ n
   sent_in_with n = get_or-set_same v.sent (cell_of v slot kind) n 0 cell_sent
 
-  cells_with : (n : ℕ) → HasCells (with_sent v slot kind n)
+  pub cells_with : (n : ℕ) → HasCells (with_sent v slot kind n)
   cells_with n = record {
+    slots_fit = cells.slots_fit;
     kinds_fit = cells.kinds_fit;
     cells_fit = cells.cells_fit;
     sent_size = length-set v.sent (cell_of v slot kind) n ∙ cells.sent_size;

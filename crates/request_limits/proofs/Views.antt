@@ -1,9 +1,9 @@
 -- The view, as the lists of held requests change.
-use Rattle.std.proofs.Common.{ℕ, ◌≡◌, ◌<◌, ◌≤◌, List, [], ◌∷◌, ◌++◌, set, drop, length, arith, ap, sym, subst, ◌∙◌}
+use Rattle.std.proofs.Common.{ℕ, ◌≡◌, List, [], ◌∷◌, ◌++◌, drop, ap, sym, subst, ◌∙◌}
 use Rattle.waiting_lists.specs.declared.item.Item.{Item}
 use Rattle.waiting_lists.specs.Lists.{ListsView, list_of, with_list, waiting}
 use Rattle.request_limits.specs.Limits.{LimitsView, HasCell, cell_of, held_in, all_held, IsFree, with_youngest, without_oldest}
-use Rattle.request_limits.specs.Kept.{view_of, held_of, held_lists, Keeps}
+use Rattle.request_limits.specs.Kept.{view_of, held_of, Keeps}
 use Rattle.request_limits.proofs.HeldLists.{held_push, held_pop, held_count}
 use Rattle.request_limits.proofs.Places.{keeps_youngest, keeps_fewer, rest_fewer}
 

@@ -1,9 +1,9 @@
 -- The invariant of the limits.
-use Rattle.std.specs.Prelude.{ℕ, ◌≡◌, ◌<◌, ◌≤◌, ◌*◌, List, length, map, slice_index}
+use Rattle.std.specs.Prelude.{ℕ, ◌≡◌, ◌<◌, ◌≤◌, List, length, map, slice_index}
 use Rattle.waiting_lists.specs.declared.item.Item.{Item}
 use Rattle.waiting_lists.specs.Lists.{ListsView}
 use Rattle.request_limits.specs.declared.held.Held.{Held}
-use Rattle.request_limits.specs.Limits.{LimitsView, kinds, slots, sent_of, all_at}
+use Rattle.request_limits.specs.Limits.{LimitsView, HasCells, slots, sent_of, all_at}
 
 -- a list has the places of requests as the numbers of its items, and the tickets as their jobs
 abbrev pub held_of : Item ℕ → Held
@@ -22,19 +22,12 @@ view_of kind_limits limits sent lists = record {
   room = lists.slots;
 }
 
--- each slot has a cell for each kind, and the cells are few enough to be numbered
-pub record HasCells (v : LimitsView) : Type 0 where
-  pub kinds_fit : kinds v ≤ 64
-  pub cells_fit : slots v * kinds v ≤ 1048576
-  pub sent_size : length v.sent ≡ slots v * kinds v
-  pub held_size : length v.held ≡ slots v * kinds v
-
 -- each total is what its slot has forwarded, over all kinds
 pub record AreTotals (v : LimitsView) (totals : List ℕ) : Type 0 where
   pub size : length totals ≡ slots v
   pub sums : (slot : ℕ) → slot < slots v → slice_index totals slot ≡ sent_of v slot
 
--- that, and no two held requests have one place
+-- that holds of the limits, and no two held requests have one place
 pub record Keeps (v : LimitsView) (totals : List ℕ) : Type 0 where
   pub cells : HasCells v
   pub totals_are : AreTotals v totals

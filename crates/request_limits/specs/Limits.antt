@@ -1,10 +1,10 @@
 -- The limits of tenants and of their kinds of requests, what is forwarded, and what is held back.
-use Rattle.std.specs.Prelude.{ℕ, ◌≡◌, ◌<◌, ◌+◌, ◌-◌, ◌*◌, ◌==◌, not, Bool, ◌&&◌, ◌||◌, List, [], ◌∷◌, ◌++◌, Option, length, replicate, take, drop, sum, sum_by, count_by, is_some, nat_lt, slice_get, slice_index, slice_index_or, slice_set}
+use Rattle.std.specs.Prelude.{ℕ, ◌≡◌, ◌<◌, ◌≤◌, ◌+◌, ◌-◌, ◌*◌, ◌==◌, not, Bool, ◌&&◌, ◌||◌, List, [], ◌∷◌, ◌++◌, Option, length, replicate, take, drop, sum, sum_by, count_by, is_some, nat_lt, slice_get, slice_index, slice_index_or, slice_set}
 use Rattle.request_limits.specs.declared.held.Held.{Held}
 
 -- The view of the limits in contracts. A tenant has a slot, and each slot a cell for each kind; the cells of a slot
 -- stand side by side, by kind. By kind, and by slot, how many requests may be forwarded and not ended: 0 is no limit.
--- By cell, how many are, and which requests are held, the oldest first. At last how many may be held in all.
+-- By cell, how many are, and which requests are held, the oldest first. Last, how many may be held in all.
 pub record LimitsView : Type 0 where
   pub kind_limits : List ℕ
   pub limits : List ℕ
@@ -26,6 +26,14 @@ pub record HasCell (v : LimitsView) (slot kind : ℕ) : Type 0 where
 abbrev pub cell_of : LimitsView → ℕ → ℕ → ℕ
 cell_of v slot kind = slot * kinds v + kind
 
+-- each slot has a cell for each kind, and there are not too many
+pub record HasCells (v : LimitsView) : Type 0 where
+  pub slots_fit : slots v ≤ 65536
+  pub kinds_fit : kinds v ≤ 64
+  pub cells_fit : slots v * kinds v ≤ 1048576
+  pub sent_size : length v.sent ≡ slots v * kinds v
+  pub held_size : length v.held ≡ slots v * kinds v
+
 -- ---- what is forwarded
 
 abbrev pub limit_of : LimitsView → ℕ → ℕ
@@ -42,7 +50,7 @@ sent_in v slot kind = slice_index v.sent (cell_of v slot kind)
 abbrev pub sent_of : LimitsView → ℕ → ℕ
 sent_of v slot = sum (take (kinds v) (drop (slot * kinds v) v.sent))
 
--- one more keeps within the limit, where 0 is no limit
+-- one more keeps within the limit; 0 is no limit
 abbrev pub is_below : ℕ → ℕ → Bool
 is_below n limit = (limit == 0) || nat_lt n limit
 

@@ -1,5 +1,11 @@
 //! The laws, one function a law: its contract is the law, and its body is empty.
-ghost use Rattle.request_limits.specs.Laws.{PassingKeepsLimits, NextIsOldest, NoneIsLeft, HoldingKeepsOrder, LeavingKeepsOrder, RemovalKeepsOrder};
+ghost use Rattle.request_limits.specs.Laws.{CellsAreApart, PassingKeepsLimits, NextIsOldest, NoneIsLeft, OrderIsKept};
+
+/// Another count of a slot and kind, or other held requests of them, change those of no other slot and kind; the count
+/// of the slot over all kinds changes as the one does, and that of no other slot.
+pub fn cells_are_apart()
+    ensures { CellsAreApart }
+{}
 
 /// Once a request that passes is forwarded, its tenant and its kind are within their limits.
 pub fn passing_keeps_limits()
@@ -18,17 +24,7 @@ pub fn none_is_left()
 {}
 
 /// The held requests of each slot and kind stay in the order of their tickets, if each that is held has a greater ticket
-/// than the others of its slot and kind.
-pub fn holding_keeps_order()
-    ensures { HoldingKeepsOrder }
-{}
-
-/// They stay in order as the oldest goes.
-pub fn leaving_keeps_order()
-    ensures { LeavingKeepsOrder }
-{}
-
-/// They stay in order whichever is removed.
-pub fn removal_keeps_order()
-    ensures { RemovalKeepsOrder }
+/// than those of its slot and kind, and whichever is held no more.
+pub fn order_is_kept()
+    ensures { OrderIsKept }
 {}

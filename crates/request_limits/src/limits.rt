@@ -1,6 +1,6 @@
 //! The limits.
 ghost use Rattle.std.specs.Prelude.{ℕ, ◌≡◌, ◌<◌, ◌≤◌, ◌+◌, ◌*◌, IfOk, IfSome, IfNone, MatchOption, length, replicate};
-ghost use Rattle.request_limits.specs.Limits.{LimitsView, slots, HasCell, cell_of, limit_of, sent_in, sent_of, is_below, passes, oldest_in, goes_at_once, all_held, IsFree, with_limit, with_one_more, with_one_fewer, with_youngest, without_oldest, IsRemoved, opened};
+ghost use Rattle.request_limits.specs.Limits.{LimitsView, slots, HasCell, HasCells, cell_of, limit_of, sent_in, sent_of, is_below, passes, oldest_in, goes_at_once, all_held, IsFree, with_limit, with_one_more, with_one_fewer, with_youngest, without_oldest, IsRemoved, opened};
 ghost use Rattle.request_limits.specs.Next.{may_go, NoneMayGo, IsNextToGo, IsFoundBelow};
 ghost use Rattle.request_limits.specs.Kept.{held_of};
 
@@ -38,9 +38,8 @@ impl Model for RequestLimits {
 }
 
 impl RequestLimits {
-    /// Nothing is forwarded or held. There are 1 to 65,536 slots, each with this limit, 1 to 64 kinds with theirs, and
-    /// at most 1,048,576 cells; a limit of 0 is none. As many requests may be held as there is room for, up to
-    /// 1,048,576. All memory is taken here.
+    /// Nothing is forwarded or held. There are up to 65,536 slots, each with this limit, and up to 64 kinds with theirs,
+    /// but at most 1,048,576 cells. A limit of 0 is none. At most `room` requests may be held. All memory is taken here.
     pub fn open(
         alloc: Global,
         slots: u32,
@@ -48,8 +47,9 @@ impl RequestLimits {
         limit: u32,
         room: u32,
     ) -> Result<RequestLimits, AllocError>
-        requires kinds { length kind_limits.items ≤ 64 }
-        requires cells { slots * length kind_limits.items ≤ 1048576 }
+        requires slots_fit { slots ≤ 65536 }
+        requires kinds_fit { length kind_limits.items ≤ 64 }
+        requires cells_fit { slots * length kind_limits.items ≤ 1048576 }
         ensures { IfOk result (λ l. l ≡ opened slots kind_limits.items limit room) }
     {
         let cells = slots * kind_limits.len() as u32;
@@ -96,8 +96,8 @@ impl RequestLimits {
         self.passes(slot, kind) && self.oldest(slot, kind).is_none()
     }
 
-    /// The oldest held request of a slot and kind.
-    pub fn oldest(&self, slot: u32, kind: u32) -> Option<Held>
+    // The oldest held request of a slot and kind.
+    fn oldest(&self, slot: u32, kind: u32) -> Option<Held>
         requires { HasCell self.now slot kind }
         ensures { result ≡ oldest_in self.now slot kind }
     {
@@ -211,6 +211,14 @@ impl RequestLimits {
         ensures { result ≡ limit_of self.now slot }
     {
         self.limits[slot as usize]
+    }
+
+    /// How many slots there are. Each has a cell for each kind.
+    pub fn slots(&self) -> u32
+        ensures count { result ≡ slots self.now }
+        ensures cells { HasCells self.now }
+    {
+        self.limits.len() as u32
     }
 
     /// How many requests of a slot are forwarded and not ended, over all kinds.

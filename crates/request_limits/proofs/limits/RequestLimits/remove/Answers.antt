@@ -1,4 +1,4 @@
-use Rattle.std.proofs.Common.{ℕ, ◌≡◌, Some, sym, subst}
+use Rattle.std.proofs.Common.{ℕ, sym, subst}
 use Rattle.waiting_lists.specs.Lists.{ListsView}
 use Rattle.request_limits.specs.declared.held.Held.{Held}
 use Rattle.request_limits.specs.Limits.{LimitsView, IsFree, IsRemoved}
