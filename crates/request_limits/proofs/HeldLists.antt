@@ -49,7 +49,7 @@ count_none place (i ∷ items) none =
     let first : one_at place (held_of i) ≡ 0 = cond-false {A = ℕ} (eqb i.request place) 1 0 (ne_eqb i.request place (All-head (λ (j : Item ℕ). j.request ≢ place) i items none)) in
     omega (arith, first, count_none place items (All-tail (λ (j : Item ℕ). j.request ≢ place) i items none), sum_by-cons (one_at place) (held_of i) (map held_of items))
 
--- where no list has an item of this number, no held request has this place
+-- if no list has an item of this number, no held request has this place
 pub none_at : (place : ℕ) (lists : List (List (Item ℕ))) → ((cell : ℕ) → cell < length lists → All (λ i. i.request ≢ place) (get_or lists cell [])) → sum_by (count_at place) (held_lists lists) ≡ 0
 none_at place [] none = refl
 none_at place (list ∷ lists) none =

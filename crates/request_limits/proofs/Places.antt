@@ -60,7 +60,7 @@ pub middle_at : (front rest : List Held) (h : Held) (place : ℕ) → count_at p
 middle_at front rest h place =
     omega (arith, sum_by-append (one_at place) front (h ∷ rest), sum_by-append (one_at place) front rest, sum_by-cons (one_at place) h rest)
 
--- where a held request is removed, its place is free
+-- once a held request is removed, its place is free
 module _ (v w : LimitsView) (place : ℕ) (h : Held) (r : IsRemoved v place h w) (totals : List ℕ) (k : Keeps v totals) where
   counts : (p : ℕ) → count_at p (held_in v r.slot r.kind) ≡ count_at p (r.front ++ r.rest) + one_at p h
   counts p = ap (λ list. count_at p list) r.was ∙ middle_at r.front r.rest h p

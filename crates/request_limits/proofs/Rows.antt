@@ -7,7 +7,7 @@ use Rattle.std.proofs.lemmas.List.Folds.{sum_by-replicate}
 use Rattle.std.proofs.lemmas.Nat.{row_fits}
 use Rattle.std.proofs.Math.Seq.{take-set-lt}
 
--- the cells of the slot `s`, where each slot has `K`
+-- the cells of the slot `s`, if each slot has `K`
 abbrev pub row : ℕ → List ℕ → ℕ → List ℕ
 row K xs s = take K (drop (s * K) xs)
 

@@ -23,7 +23,7 @@ first_stays v slot kind k first held f may older = record {
   ];
 }
 
--- and where none of the kind may go nothing changes
+-- and if none of the kind may go nothing changes
 pub none_more : (v : LimitsView) (slot kind : ℕ) (found : Option (ℕ × Held)) → IsFoundBelow v slot kind found → may_go v slot kind ≡ None → IsFoundBelow v slot (kind + 1) found
 none_more v slot kind None none may = λ other below. elim (cases_eq other kind) [
   | inl same ↦ subst (λ o. may_go v slot o ≡ None) (sym same) may

@@ -27,7 +27,7 @@ pub record AreTotals (v : LimitsView) (totals : List ℕ) : Type 0 where
   pub size : length totals ≡ slots v
   pub sums : (slot : ℕ) → slot < slots v → slice_index totals slot ≡ sent_of v slot
 
--- that holds of the limits, and no two held requests have one place
+-- the cells and the totals are as they should be, and no two held requests have one place
 pub record Keeps (v : LimitsView) (totals : List ℕ) : Type 0 where
   pub cells : HasCells v
   pub totals_are : AreTotals v totals

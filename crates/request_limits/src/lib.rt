@@ -8,6 +8,8 @@
 pub mod held;
 pub mod laws;
 pub mod limits;
+#[cfg(test)]
+mod tests;
 
 pub use held::Held;
 pub use limits::RequestLimits;

@@ -103,14 +103,12 @@ impl RequestLimits {
     {
         let cell = self.cell(slot, kind);
         let item = self.held.head(cell)?;
-        Some(Held {
-            ticket: item.job,
-            place: item.request,
-        })
+        Some(held_of(item))
     }
 
-    /// The held request of a slot that goes next, with its kind: of those that pass the oldest, as long as the held ones
-    /// of each slot and kind are in the order of their tickets; of equal tickets that of the least kind.
+    /// The held request of a slot that goes next, with its kind: of the oldest ones of all kinds, of those that pass, the
+    /// one of the least ticket, and of equal tickets that of the least kind. If the held ones of each slot and kind are
+    /// in the order of their tickets, it is the oldest of all that pass.
     pub fn next_to_go(&self, slot: u32) -> Option<(u32, Held)>
         requires { slot < slots self.now }
         ensures { MatchOption result (NoneMayGo self.now slot) (λ n. IsNextToGo self.now slot n.0 n.1) }
@@ -183,7 +181,7 @@ impl RequestLimits {
     {
         let cell = self.cell(slot, kind);
         let item = self.held.pop(cell)?;
-        Some(held_of(item))
+        Some(held_of(&item))
     }
 
     /// Takes the held request of this place out, of whichever slot and kind it is.
@@ -194,7 +192,7 @@ impl RequestLimits {
         ensures gone { IsFree self.new place }
     {
         let (_, item) = self.held.remove(place)?;
-        Some(held_of(item))
+        Some(held_of(&item))
     }
 
     /// The limit of a slot is this from now on, and 0 is no limit. What is forwarded stays so.
@@ -219,6 +217,15 @@ impl RequestLimits {
         ensures cells { HasCells self.now }
     {
         self.limits.len() as u32
+    }
+
+    /// How many requests of a slot and kind are forwarded and not ended.
+    pub fn sent_in(&self, slot: u32, kind: u32) -> u32
+        requires { HasCell self.now slot kind }
+        ensures { result ≡ sent_in self.now slot kind }
+    {
+        let cell = self.cell(slot, kind);
+        self.sent[cell as usize]
     }
 
     /// How many requests of a slot are forwarded and not ended, over all kinds.
@@ -264,8 +271,8 @@ fn first_of(found: Option<(u32, Held)>, kind: u32, held: Option<Held>) -> Option
 }
 
 // The request that an item stands for.
-fn held_of(item: Item<u64>) -> Held
-    ensures { result ≡ held_of item }
+fn held_of(item: &Item<u64>) -> Held
+    ensures { result ≡ held_of item.now }
 {
     Held {
         ticket: item.job,
