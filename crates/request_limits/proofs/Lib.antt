@@ -1,0 +1,10 @@
+pub mod Rows
+pub mod Sends
+pub mod HeldLists
+pub mod Places
+pub mod Views
+pub mod Removed
+pub mod Searches
+pub mod Opens
+pub mod Orders
+pub mod Apart

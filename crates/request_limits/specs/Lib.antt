@@ -1,0 +1,4 @@
+pub mod Limits
+pub mod Next
+pub mod Kept
+pub mod Laws
