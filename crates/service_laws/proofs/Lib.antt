@@ -10,3 +10,4 @@ pub mod Rooms
 pub mod RoomLaws
 pub mod Admissions
 pub mod Floods
+pub mod Serving

@@ -18,7 +18,7 @@ use Rattle.service_model.specs.Limits.{may_go, next_to_go, Forwards, ReleasesThe
 use Rattle.service_model.specs.Withdrawing.{without, WithdrawsForwarded, Withdraws, CancelsKnown}
 use Rattle.service_laws.proofs.Lists.{either}
 use Rattle.service_laws.proofs.Refreshed.{IsMaking, made_now}
-use Rattle.service_laws.proofs.Rolled.{Renumbers, rolled, with_room_still}
+use Rattle.service_laws.proofs.Rolled.{with_room_still}
 
 -- ---- the moves
 

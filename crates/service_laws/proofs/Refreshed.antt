@@ -60,9 +60,9 @@ module _ (R : ServiceView → ServiceView → Type 0) (k : IsMaking R) where
       either (is_none (ticket_on v worker)) _ _ (R v w)
       (λ _ x. k.equal v w x)
       (λ _ x. either (x.run.named == 0) _ _ (R v w)
-        (λ _ y. reported c m v x.run (use_of (m - x.run.taken)) w y)
-        (λ _ y. k.equal v w y)
-        x.reports)
+      (λ _ y. reported c m v x.run (use_of (m - x.run.taken)) w y)
+      (λ _ y. k.equal v w y)
+      x.reports)
 
   refreshed_all : (c : ServiceConfig) (m : ℕ) (v : ServiceView) (workers : List ℕ) (w : ServiceView)
       → FoldsTo (RefreshesWorker c m) v workers w → R v w

@@ -1,5 +1,5 @@
 //! The laws, one function a law: its contract is the law, and its body is empty.
-ghost use Rattle.service_model.specs.Laws.{FloodsAreHalved, NoGrantIsLate, OwnPlacesAreKept, RestsForCause, RoomIsKept, WaitingFitsRoom};
+ghost use Rattle.service_model.specs.Laws.{FloodsAreHalved, NoGrantIsLate, OwnPlacesAreKept, RestsForCause, RoomIsKept, SchedulersAreLegal, WaitingFitsRoom};
 
 /// What waits came to the room as the room lets it, so that all laws of the room hold.
 pub fn room_is_kept()
@@ -31,4 +31,11 @@ pub fn no_grant_is_late()
 /// workers, or all free workers decline.
 pub fn rests_for_cause()
     ensures { RestsForCause }
+{}
+
+/// Each of the two schedulers has the configuration of the service, with weights of its own, and a legal history: so
+/// each grant is the policy's choice for that worker, and all laws of schedulers hold of what a service runs, from one
+/// scheduler's first entry to its last.
+pub fn schedulers_are_legal()
+    ensures { SchedulersAreLegal }
 {}
