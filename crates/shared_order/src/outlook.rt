@@ -148,7 +148,10 @@ fn may_have(turn: Turn, heads: &Extent, longest: i128) -> bool
     ensures { result ≡ false → NoneSoLongIsReached turn longest heads.now }
 {
     match heads.first {
-        Some(first) => is_in_reach(turn, first.finish, longest.min(heads.longest)),
+        Some(first) => {
+            heads.shortest <= longest
+                && is_in_reach(turn, first.finish, longest.min(heads.longest))
+        }
         None => false,
     }
 }

@@ -6,4 +6,4 @@ use Rattle.shared_order.proofs.block.Block.absorb.Goals as goal
 pub invariant_of-self : goal.invariant_of-self
 invariant_of-self c =
     let items : c.extend_from_slice.new.self.items ≡ c.self.inside.heads.items ++ c.next.inside.heads.items = search rules in
-    absorbed c.self.inside.heads.items c.next.inside.heads.items _ _ _ _ _ _ _ items c.self.invariant c.next.invariant (rw (c.self.view_is, c.next.view_is) (c.requires.in_order)) (search rules) (search rules) (grind (arith, to_z-of_z))
+    absorbed c.self.inside.heads.items c.next.inside.heads.items _ _ _ _ _ _ _ items c.self.invariant c.next.invariant (rw (c.self.view_is, c.next.view_is) (c.requires.in_order)) (search rules) (search rules) (?a)

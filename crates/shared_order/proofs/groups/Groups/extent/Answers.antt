@@ -3,7 +3,7 @@ use mir.Syntax.{w128}
 use Rattle.std.proofs.lemmas.Int.{to_z-of_z}
 use Rattle.shared_order.specs.Heads.{HeadView, greatest_length}
 use Rattle.shared_order.specs.Blocks.{block_at}
-use Rattle.shared_order.specs.Groups.{group_heads, AreLongest}
+use Rattle.shared_order.specs.Groups.{group_heads, AreAllLengths}
 use Rattle.shared_order.proofs.Grouping.{begins, group_first}
 use Rattle.shared_order.proofs.Numbers.{number_read}
 use Rattle.shared_order.proofs.Rows.{read_block}
@@ -17,7 +17,7 @@ returns c =
     let within : at * 32 < length bs = begins (length bs) at c.requires.known in
     let block : c.index-used-at.result ≡ block_at bs (at * 32) = read_block bs c.used.result.now (at * 32) c.index-used-at.result c.index-used-at.result (c.used.ensures ∙ used) c.index-used-at.is refl within in
     let first : c.first.result ≡ slice_get (group_heads bs at) 0 = c.first.ensures ∙ (ap (λ (b : List HeadView). slice_get b 0) block ∙ sym (group_first bs at within c.requires.filled)) in
-    let numbers : AreLongest bs c.self.inside.longest.items = subst (λ (t : List (List HeadView)). AreLongest t c.self.inside.longest.items) used c.self.invariant.numbers in
+    let numbers : AreAllLengths bs c.self.inside.lengths.items = subst (λ (t : List (List HeadView)). AreAllLengths t c.self.inside.lengths.items) used c.self.invariant.all in
     let fits : FitsSigned w128 c.index.result.now = search rules in
-    let longest : to_z w128 (of_z w128 c.index.result.now) ≡ greatest_length (group_heads bs at) = to_z-of_z w128 c.index.result.now fits ∙ number_read bs c.self.inside.longest.items at c.index.result.now numbers c.requires.known c.index.ensures in
+    let longest : to_z w128 (of_z w128 c.index.result.now) ≡ greatest_length (group_heads bs at) = to_z-of_z w128 c.index.result.now fits ∙ number_read bs c.self.inside.lengths.items at c.index.result.now numbers c.requires.known c.index.ensures in
     rw (first, longest) refl
