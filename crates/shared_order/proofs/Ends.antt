@@ -32,7 +32,7 @@ least-gains xs ys y = omega (arith, ints, clamps, least-append xs (y ∷ ys), le
 
 -- ---- both
 
-pub lengths : ℤ → ℤ → Lengths
+abbrev pub lengths : ℤ → ℤ → Lengths
 lengths longest shortest = record { longest = longest; shortest = shortest }
 
 pub same_lengths : (a b c d : ℤ) → a ≡ c → b ≡ d → lengths a b ≡ lengths c d
