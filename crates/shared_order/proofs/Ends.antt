@@ -1,6 +1,8 @@
 -- The greatest and the least length of a head.
 use Rattle.std.proofs.Common.{◌≡◌, ◌≢◌, ◌∙◌, ap, ℤ, ◌≤ℤ◌, pos, List, [], ◌∷◌, ◌++◌, arith}
 use Rattle.std.specs.Int.{int_max, int_min}
+use Rattle.std.specs.List.{All}
+use Rattle.std.proofs.lemmas.List.Elements.{All-nil, All-cons, All-weaker}
 use Rattle.std.proofs.lemmas.Int.{ints, clamps, by_lt_z}
 use Rattle.vt_fixed.specs.declared.limits.TheConstants.{GREATEST_LENGTH}
 use Rattle.shared_order.specs.declared.lengths.Lengths.{Lengths}
@@ -29,6 +31,11 @@ least-append (x ∷ xs) ys = omega (arith, ints, clamps, least-append xs ys)
 
 least-gains : (xs ys : List HeadView) (y : HeadView) → least_length (xs ++ y ∷ ys) ≡ int_min (least_length (xs ++ ys)) y.len
 least-gains xs ys y = omega (arith, ints, clamps, least-append xs (y ∷ ys), least-append xs ys)
+
+pub least_covers : (xs : List HeadView) → All (λ (h : HeadView). least_length xs ≤ℤ h.len) xs
+least_covers [] = All-nil (λ (h : HeadView). GREATEST_LENGTH ≤ℤ h.len)
+least_covers (x ∷ xs) =
+    All-cons (λ (h : HeadView). int_min x.len (least_length xs) ≤ℤ h.len) x xs (omega (arith, ints, clamps)) (All-weaker (λ (h : HeadView). least_length xs ≤ℤ h.len) (λ (h : HeadView). int_min x.len (least_length xs) ≤ℤ h.len) (λ h le. omega (arith, ints, clamps, le)) xs (least_covers xs))
 
 -- ---- both
 

@@ -149,8 +149,7 @@ fn may_have(turn: Turn, heads: &Extent, longest: i128) -> bool
 {
     match heads.first {
         Some(first) => {
-            heads.shortest <= longest
-                && is_in_reach(turn, first.finish, longest.min(heads.longest))
+            heads.shortest <= longest && is_in_reach(turn, first.finish, longest.min(heads.longest))
         }
         None => false,
     }
