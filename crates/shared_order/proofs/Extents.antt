@@ -5,7 +5,7 @@ use Rattle.fq_model.specs.Keys.{Turn}
 use Rattle.shared_order.specs.declared.extent.Extent.{Extent}
 use Rattle.shared_order.specs.declared.search.Candidate.{Candidate}
 use Rattle.shared_order.specs.Reach.{key_by_finish, IsInReach}
-use Rattle.shared_order.specs.Heads.{HeadView, greatest_length}
+use Rattle.shared_order.specs.Heads.{HeadView, greatest_length, least_length}
 use Rattle.shared_order.specs.Search.{AreInRange}
 use Rattle.shared_order.specs.Extents.{extent_of, IsShortEnough, NoneIsReached, NoneIsSooner}
 use Rattle.shared_order.proofs.Searching.{longest_low, longest_high, unreached, passed_over, nothing_there}
@@ -15,6 +15,9 @@ first_of x heads e = sym (ap (λ (y : Extent). y.first) e)
 
 pub longest_of : (x : Extent) (heads : List HeadView) → x ≡ extent_of heads → x.longest ≡ greatest_length heads
 longest_of x heads e = ap (λ (y : Extent). y.longest) e
+
+pub shortest_of : (x : Extent) (heads : List HeadView) → x ≡ extent_of heads → x.shortest ≡ least_length heads
+shortest_of x heads e = ap (λ (y : Extent). y.shortest) e
 
 pub short_enough : (x : Extent) (heads : List HeadView) → x ≡ extent_of heads → AreInRange heads → IsShortEnough x
 short_enough x heads e r = record {

@@ -1,5 +1,5 @@
 pub mod Reach
-pub mod Lengths
+pub mod Ends
 pub mod Sorting
 pub mod InBlock
 pub mod Places

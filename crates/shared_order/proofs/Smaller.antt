@@ -1,5 +1,5 @@
 -- The search for an eligible head with a small estimate.
-use Rattle.std.proofs.Common.{ℕ, ◌*◌, ◌<◌, ◌≤◌, ◌≡◌, ◌↔◌, min, arith, sym, ◌∙◌, ap, subst, Bool, false, IsTrue, List, [], ◌∷◌, ◌++◌, get_or, slice_get, slice_index_or, inr, Option, Some, None, is_some, IfSome, IfNone, ℤ, pos, negsuc, unsigned_abs, ◌≤ℤ◌, to_z, of_z}
+use Rattle.std.proofs.Common.{ℕ, ◌*◌, ◌<◌, ◌≤◌, ◌≡◌, ◌↔◌, min, arith, sym, ◌∙◌, ap, subst, Bool, false, IsTrue, List, [], ◌∷◌, ◌++◌, get_or, slice_get, slice_index_or, inr, Option, Some, None, is_some, IfSome, IfNone, ℤ, pos, negsuc, unsigned_abs, ◌≤ℤ◌, to_z, of_z, int_le}
 use mir.Syntax.{w128}
 use Rattle.std.specs.List.{All, Contains}
 use Rattle.std.specs.Int.{int_min}
@@ -21,7 +21,8 @@ use Rattle.shared_order.specs.Outlook.{IsWeighed, IsSought, SomeIsSought, IsOutl
 use Rattle.shared_order.proofs.Reach.{reach_bounded}
 use Rattle.shared_order.proofs.Pieces.{back_pairs, all_back, holds_middle}
 use Rattle.shared_order.proofs.Searching.{first_least, longest_covers, reads_length}
-use Rattle.shared_order.proofs.Extents.{first_of, longest_of}
+use Rattle.shared_order.proofs.Extents.{first_of, longest_of, shortest_of}
+use Rattle.shared_order.proofs.Ends.{least_covers}
 
 -- ---- the greatest length
 
@@ -99,6 +100,17 @@ none_so_long at x first longest F L result lt some at_finish at_length tells fai
   where
     at_most : (x y z : ℤ) → x ≤ℤ y → x ≤ℤ z → x ≤ℤ int_min y z
     at_most x y z p q = omega (arith, ints, clamps, p, q)
+
+-- where the least length is above the longest that is sought
+pub all_longer : (at : Turn) (x : Extent) (longest : ℤ) → to_z w128 (of_z w128 x.shortest) ≡ x.shortest → to_z w128 (of_z w128 longest) ≡ longest → int_le (to_z w128 (of_z w128 x.shortest)) (to_z w128 (of_z w128 longest)) ≡ false → NoneSoLongIsReached at longest x
+all_longer at x longest read bound fails = λ heads in_order e k d within short reached.
+    let h : HeadView = get_or heads k d in
+    let covers : x.shortest ≤ℤ h.len = subst (λ z. z ≤ℤ h.len) (sym (shortest_of x heads e)) (least_covers heads k d within) in
+    let longer : int_le x.shortest longest ≡ false = ap (λ z. int_le z longest) (sym read) ∙ (ap (int_le (to_z w128 (of_z w128 x.shortest))) (sym bound) ∙ fails) in
+    too_long x.shortest longest h.len longer covers short
+  where
+    too_long : (x y z : ℤ) → int_le x y ≡ false → x ≤ℤ z → z ≤ℤ y → ⊥
+    too_long x y z off p q = omega (arith, ints, off, p, q)
 
 -- the lesser length, and as it is read
 pub min_low : (a b : ℤ) → pos 0 ≤ℤ a → pos 0 ≤ℤ b → pos 0 ≤ℤ int_min a b

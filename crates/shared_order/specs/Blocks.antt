@@ -1,8 +1,9 @@
 -- Heads in blocks.
-use Rattle.std.specs.Prelude.{ℕ, suc, ◌≡◌, ◌+◌, ◌-◌, ◌*◌, ◌<◌, ◌≤◌, List, [], ◌∷◌, ◌++◌, length, take, drop, slice_set, slice_index_or, ℤ, ◌⊎◌}
+use Rattle.std.specs.Prelude.{ℕ, suc, ◌≡◌, ◌+◌, ◌-◌, ◌*◌, ◌<◌, ◌≤◌, List, [], ◌∷◌, ◌++◌, length, take, drop, slice_set, slice_index_or, ◌⊎◌}
 use Rattle.std.specs.List.{All, flat_map}
 use Rattle.shared_order.specs.declared.block.TheConstants.{BLOCK, HALF}
-use Rattle.shared_order.specs.Heads.{HeadView, HeadBefore, IsSorted, Gains, greatest_length}
+use Rattle.shared_order.specs.Heads.{HeadView, HeadBefore, IsSorted, Gains, lengths_of}
+use Rattle.shared_order.specs.declared.lengths.Lengths.{Lengths}
 
 -- the heads of all blocks, one block after the other
 abbrev pub all_heads : List (List HeadView) → List HeadView
@@ -87,11 +88,11 @@ pub record OrderView : Type 0 where
   pub room : ℕ
 
 -- the invariant of a block
-pub record KeepsBlock (heads : List HeadView) (capacity : ℕ) (longest : ℤ) : Type 0 where
+pub record KeepsBlock (heads : List HeadView) (capacity : ℕ) (lengths : Lengths) : Type 0 where
   pub sorted : IsSorted heads
   pub few : length heads ≤ BLOCK
   pub room : BLOCK ≤ capacity
-  pub greatest : longest ≡ greatest_length heads
+  pub ends : lengths ≡ lengths_of heads
 
 -- the invariant of blocks in a row: each place has room for all of them
 pub record KeepsBlocks

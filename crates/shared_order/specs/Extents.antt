@@ -6,11 +6,11 @@ use Rattle.fq_model.specs.Keys.{Turn}
 use Rattle.shared_order.specs.declared.extent.Extent.{Extent}
 use Rattle.shared_order.specs.declared.search.Candidate.{Candidate}
 use Rattle.shared_order.specs.Reach.{IsInReach}
-use Rattle.shared_order.specs.Heads.{HeadView, greatest_length}
+use Rattle.shared_order.specs.Heads.{HeadView, greatest_length, least_length}
 use Rattle.shared_order.specs.Search.{AreInRange, AreInOrder, IsReached, TakesSoonest}
 
 abbrev pub extent_of : List HeadView → Extent
-extent_of heads = record { first = slice_get heads 0; longest = greatest_length heads }
+extent_of heads = record { first = slice_get heads 0; longest = greatest_length heads; shortest = least_length heads }
 
 -- the greatest length is in its limits
 pub record IsShortEnough (extent : Extent) : Type 0 where

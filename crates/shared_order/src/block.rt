@@ -1,12 +1,12 @@
 //! A block of heads.
 ghost use Rattle.std.specs.Prelude.{◌≡◌, ◌≢◌, ◌≤◌, ◌<◌, ◌+◌, ◌++◌, ◌↔◌, [], IfOk, IsTrue, length, take, drop, slice_get};
-ghost use Rattle.std.specs.Int.{int_max};
 ghost use Rattle.std.specs.List.{All, Contains};
-ghost use Rattle.shared_order.specs.Heads.{HeadBefore, IsSorted, IsPlaceOf, Gains, greatest_length};
+ghost use Rattle.shared_order.specs.Heads.{HeadBefore, IsSorted, IsPlaceOf, Gains, greatest_length, lengths_of, with_length};
 ghost use Rattle.shared_order.specs.Extents.{extent_of};
 
 use crate::extent::Extent;
 use crate::head::Head;
+use crate::lengths::Lengths;
 use std::alloc::{AllocError, Global};
 use std::marker::Model;
 
@@ -20,7 +20,7 @@ pub const HALF: usize = 16;
 #[derive(Drop)]
 pub struct Block {
     heads: Vec<Head>,
-    longest: i128,
+    lengths: Lengths,
 }
 
 impl Model for Block {
@@ -33,7 +33,7 @@ impl Model for Block {
 
     ghost view = { λ b. b.heads.items };
 
-    ghost invariant = { λ b. KeepsBlock b.heads.items (vec_capacity b.heads) b.longest };
+    ghost invariant = { λ b. KeepsBlock b.heads.items (vec_capacity b.heads) b.lengths };
 }
 
 impl Block {
@@ -42,7 +42,8 @@ impl Block {
         ensures { IfOk result (λ b. b ≡ []) }
     {
         let heads = Vec::with_capacity(alloc, BLOCK)?;
-        Ok(Block { heads, longest: 0 })
+        let lengths = Lengths::of_none();
+        Ok(Block { heads, lengths })
     }
 
     /// The heads, by finish, then by number.
@@ -55,12 +56,20 @@ impl Block {
         &self.heads
     }
 
-    /// The greatest length of a head, in steps; 0 where there is none.
+    /// The greatest length of a head, in steps; 0 if there is none.
     #[inline]
     pub fn longest(&self) -> i128
         ensures { result ≡ greatest_length self.now }
     {
-        self.longest
+        self.lengths.longest
+    }
+
+    /// The greatest and the least length of a head.
+    #[inline]
+    pub fn lengths(&self) -> Lengths
+        ensures { result ≡ lengths_of self.now }
+    {
+        self.lengths
     }
 
     /// The head that comes before all others.
@@ -71,14 +80,15 @@ impl Block {
         self.heads.first().copied()
     }
 
-    /// The first head and the greatest length.
+    /// The first head, and the greatest and the least length.
     #[inline]
     pub fn extent(&self) -> Extent
         ensures { result ≡ extent_of self.now }
     {
         Extent {
             first: self.first(),
-            longest: self.longest,
+            longest: self.lengths.longest,
+            shortest: self.lengths.shortest,
         }
     }
 
@@ -103,7 +113,7 @@ impl Block {
         let at = place_of(&self.heads, &head);
         // The room was taken when the block was opened.
         let _ = self.heads.insert(at, head);
-        self.longest = self.longest.max(head.len);
+        self.lengths = self.lengths.with(head.len);
     }
 
     /// Takes out a head that stands here.
@@ -114,7 +124,7 @@ impl Block {
     {
         let at = place_of(&self.heads, &head);
         self.heads.remove(at);
-        self.longest = longest_without(&self.heads, head.len, self.longest);
+        self.lengths = lengths_without(&self.heads, head.len, self.lengths);
     }
 
     /// Moves the second half of a full block into an empty one.
@@ -126,9 +136,9 @@ impl Block {
     {
         // Each block has room for `BLOCK` heads, so neither this nor `absorb` takes memory.
         let _ = next.heads.extend_from_slice(&self.heads[HALF..]);
-        next.longest = longest_of(&next.heads);
+        next.lengths = lengths_in(&next.heads);
         self.heads.truncate(HALF);
-        self.longest = longest_of(&self.heads);
+        self.lengths = lengths_in(&self.heads);
     }
 
     /// Moves all heads of the block that comes next to the end of this one.
@@ -139,9 +149,9 @@ impl Block {
         ensures rest { next.new ≡ [] }
     {
         let _ = self.heads.extend_from_slice(&next.heads);
-        self.longest = self.longest.max(next.longest);
+        self.lengths = self.lengths.join(next.lengths);
         next.heads.clear();
-        next.longest = 0;
+        next.lengths = Lengths::of_none();
     }
 }
 
@@ -153,25 +163,25 @@ fn place_of(heads: &[Head], head: &Head) -> usize
     heads.partition_point(|other| other.is_before(head))
 }
 
-/// The greatest length of these heads, 0 where there is none.
-fn longest_of(heads: &[Head]) -> i128
-    ensures { result ≡ greatest_length heads.now }
+/// The greatest and the least length of these heads.
+fn lengths_in(heads: &[Head]) -> Lengths
+    ensures { result ≡ lengths_of heads.now }
 {
-    let mut longest: i128 = 0;
+    let mut lengths = Lengths::of_none();
     for head in heads {
-        longest = longest.max(head.len);
+        lengths = lengths.with(head.len);
     }
-    longest
+    lengths
 }
 
-/// The greatest length of these heads, where it was `longest` with one more of this length.
-fn longest_without(heads: &[Head], len: i128, longest: i128) -> i128
-    requires { longest ≡ int_max (greatest_length heads.now) len }
-    ensures { result ≡ greatest_length heads.now }
+/// The lengths of these heads, which were `lengths` with one more of this length.
+fn lengths_without(heads: &[Head], len: i128, lengths: Lengths) -> Lengths
+    requires { lengths ≡ with_length (lengths_of heads.now) len }
+    ensures { result ≡ lengths_of heads.now }
 {
-    if len == longest {
-        longest_of(heads)
+    if lengths.has(len) {
+        lengths_in(heads)
     } else {
-        longest
+        lengths
     }
 }

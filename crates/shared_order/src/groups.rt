@@ -1,30 +1,31 @@
 //! Blocks in groups.
 ghost use Rattle.std.specs.Prelude.{◌≡◌, ◌≢◌, ◌≤◌, ◌<◌, ◌+◌, ◌++◌, [], ◌∷◌, IfOk, length, take, vec_capacity};
 ghost use Rattle.std.specs.List.{All, Contains, remove};
-ghost use Rattle.shared_order.specs.Heads.{IsSorted, greatest_length};
+ghost use Rattle.shared_order.specs.Heads.{IsSorted, lengths_of};
 ghost use Rattle.shared_order.specs.Blocks.{all_heads, block_at, NoneIsEmpty, HeadJoins, HeadLeaves, with_halves, with_joined};
 ghost use Rattle.shared_order.specs.Extents.{extent_of};
-ghost use Rattle.shared_order.specs.Groups.{group_at, group_count, group_heads, AreGreatest, AreLongest};
+ghost use Rattle.shared_order.specs.Groups.{group_at, group_count, group_heads, AreLengths, AreAllLengths};
 
 use crate::block::{BLOCK, Block};
 use crate::blocks::Blocks;
 use crate::extent::Extent;
 use crate::head::Head;
+use crate::lengths::Lengths;
 use std::alloc::{AllocError, Global};
 use std::marker::Model;
 
 /// The most blocks of a group.
 pub const GROUP: usize = 32;
 
-/// Blocks in a row, and for each group of neighbours the greatest length of a head in it, by which a choice passes over
-/// all of them at once. No call after `open` takes memory.
+/// Blocks in a row, and for each group of neighbours the greatest and the least length of a head in it, by which a
+/// search passes over all of them at once. No call after `open` takes memory.
 ///
-/// The groups go by place. So a block that comes into the row or goes out of it shifts all later ones, and the numbers
+/// The groups go by place. So a block that comes into the row or goes out of it shifts all later ones, and the lengths
 /// from there on are made anew, as the later places of the row are moved. There are many changes between two of these.
 #[derive(Drop)]
 pub struct Groups {
     blocks: Blocks,
-    longest: Vec<i128>,
+    lengths: Vec<Lengths>,
 }
 
 impl Model for Groups {
@@ -36,7 +37,7 @@ impl Model for Groups {
 
     ghost view = { λ g. g.blocks };
 
-    ghost invariant = { λ g. KeepsGroups g.blocks g.longest.items (vec_capacity g.longest) };
+    ghost invariant = { λ g. KeepsGroups g.blocks g.lengths.items (vec_capacity g.lengths) };
 }
 
 impl Groups {
@@ -44,9 +45,9 @@ impl Groups {
     pub fn open(alloc: Global, blocks: usize) -> Result<Groups, AllocError>
         ensures { IfOk result (λ g. g ≡ record { used = []; spare = blocks }) }
     {
-        let longest = Vec::with_capacity(alloc, blocks.div_ceil(GROUP))?;
+        let lengths = Vec::with_capacity(alloc, blocks.div_ceil(GROUP))?;
         let blocks = Blocks::open(alloc, blocks)?;
-        Ok(Groups { blocks, longest })
+        Ok(Groups { blocks, lengths })
     }
 
     /// The blocks that are in use.
@@ -62,7 +63,7 @@ impl Groups {
     pub fn count(&self) -> usize
         ensures { result ≡ group_count (length self.now.used) }
     {
-        self.longest.len()
+        self.lengths.len()
     }
 
     /// The blocks of a group.
@@ -74,16 +75,18 @@ impl Groups {
         blocks_of(self.blocks.used(), at)
     }
 
-    /// The first head of a group, and the greatest length of one in it.
+    /// The first head of a group, and the greatest and the least length of one in it.
     #[inline]
     pub fn extent(&self, at: usize) -> Extent
         requires known { at < group_count (length self.now.used) }
         requires filled { NoneIsEmpty self.now.used }
         ensures { result ≡ extent_of (group_heads self.now.used at) }
     {
+        let lengths = self.lengths[at];
         Extent {
             first: self.blocks.used()[at * GROUP].first(),
-            longest: self.longest[at],
+            longest: lengths.longest,
+            shortest: lengths.shortest,
         }
     }
 
@@ -95,7 +98,7 @@ impl Groups {
         ensures spare { self.new.spare + 1 ≡ self.old.spare }
     {
         self.blocks.begin(head);
-        renew(&mut self.longest, self.blocks.used(), 0);
+        renew(&mut self.lengths, self.blocks.used(), 0);
     }
 
     /// Puts a head of a request that has none there into a block.
@@ -107,8 +110,8 @@ impl Groups {
         ensures spare { self.new.spare ≡ self.old.spare }
     {
         self.blocks.insert(at, head);
-        let longest = &mut self.longest[at / GROUP];
-        *longest = (*longest).max(head.len);
+        let lengths = &mut self.lengths[at / GROUP];
+        *lengths = lengths.with(head.len);
     }
 
     /// Takes a head out of its block.
@@ -120,8 +123,8 @@ impl Groups {
     {
         self.blocks.remove(at, head);
         let group = at / GROUP;
-        if self.longest[group] == head.len {
-            self.longest[group] = longest_in(blocks_of(self.blocks.used(), group));
+        if self.lengths[group].has(head.len) {
+            self.lengths[group] = lengths_in(blocks_of(self.blocks.used(), group));
         }
     }
 
@@ -134,7 +137,7 @@ impl Groups {
         ensures spare { self.new.spare + 1 ≡ self.old.spare }
     {
         self.blocks.split(at);
-        renew(&mut self.longest, self.blocks.used(), at / GROUP);
+        renew(&mut self.lengths, self.blocks.used(), at / GROUP);
     }
 
     /// Joins a block and the next one to one.
@@ -146,7 +149,7 @@ impl Groups {
         ensures spare { self.new.spare ≡ self.old.spare + 1 }
     {
         self.blocks.join(at);
-        renew(&mut self.longest, self.blocks.used(), at / GROUP);
+        renew(&mut self.lengths, self.blocks.used(), at / GROUP);
     }
 
     /// Takes a block that has no heads out of use.
@@ -157,7 +160,7 @@ impl Groups {
         ensures spare { self.new.spare ≡ self.old.spare + 1 }
     {
         self.blocks.close(at);
-        renew(&mut self.longest, self.blocks.used(), at / GROUP);
+        renew(&mut self.lengths, self.blocks.used(), at / GROUP);
     }
 }
 
@@ -170,28 +173,28 @@ fn blocks_of(blocks: &[Block], at: usize) -> &[Block]
     &blocks[from..blocks.len().min(from + GROUP)]
 }
 
-/// The greatest length of a head in these blocks, 0 where there is none.
-fn longest_in(blocks: &[Block]) -> i128
-    ensures { result ≡ greatest_length (all_heads blocks.now) }
+/// The greatest and the least length of a head in these blocks.
+fn lengths_in(blocks: &[Block]) -> Lengths
+    ensures { result ≡ lengths_of (all_heads blocks.now) }
 {
-    let mut longest: i128 = 0;
+    let mut lengths = Lengths::of_none();
     for block in blocks {
-        longest = longest.max(block.longest());
+        lengths = lengths.join(block.lengths());
     }
-    longest
+    lengths
 }
 
-/// Makes the greatest lengths of the groups anew from this group on.
-fn renew(longest: &mut Vec<i128>, blocks: &[Block], from: usize)
+/// Makes the lengths of the groups anew from this group on.
+fn renew(lengths: &mut Vec<Lengths>, blocks: &[Block], from: usize)
     requires known { from ≤ group_count (length blocks.now) }
-    requires before { from ≤ length longest.old.items }
-    requires kept { AreGreatest blocks.now (take from longest.old.items) }
-    requires room { group_count (length blocks.now) ≤ vec_capacity longest.old }
-    ensures longest { AreLongest blocks.now longest.new.items }
-    ensures capacity { vec_capacity longest.new ≡ vec_capacity longest.old }
+    requires before { from ≤ length lengths.old.items }
+    requires kept { AreLengths blocks.now (take from lengths.old.items) }
+    requires room { group_count (length blocks.now) ≤ vec_capacity lengths.old }
+    ensures lengths { AreAllLengths blocks.now lengths.new.items }
+    ensures capacity { vec_capacity lengths.new ≡ vec_capacity lengths.old }
 {
-    longest.truncate(from);
+    lengths.truncate(from);
     for group in from..blocks.len().div_ceil(GROUP) {
-        longest.push_reserved(longest_in(blocks_of(blocks, group)));
+        lengths.push_reserved(lengths_in(blocks_of(blocks, group)));
     }
 }

@@ -9,6 +9,7 @@ pub mod extent;
 pub mod groups;
 pub mod head;
 pub mod laws;
+pub mod lengths;
 pub mod order;
 pub mod outlook;
 pub mod search;

@@ -62,8 +62,9 @@ fn has_smaller(turn: Turn, groups: &Groups, below: u64, weights: &[u32]) -> bool
 
 /// The first eligible head with an estimate below this, in microseconds.
 ///
-/// Such a head is shorter than that estimate is at weight 1. Where a head of this length that finishes with the first
-/// of a group would not be eligible, neither this group nor a later one has what is sought, and the search ends there.
+/// Such a head is no longer than that estimate is at weight 1. If a head of this length that finishes with the first of
+/// a group would not be eligible, neither this group nor a later one has what is sought, and the search ends there. A
+/// group or a block whose shortest head is longer is passed over.
 pub(crate) fn first_smaller(
     turn: Turn,
     groups: &Groups,
@@ -139,7 +140,8 @@ fn ends_before(turn: Turn, heads: &Extent, longest: i128) -> bool
     }
 }
 
-// Whether one of the heads that have this extent may be eligible that is at most so long.
+// Whether one of the heads that have this extent may be eligible that is at most so long. If the shortest is longer
+// none is.
 fn may_have(turn: Turn, heads: &Extent, longest: i128) -> bool
     requires begun { pos 0 ≤ℤ turn.virtual_time }
     requires short { IsShortEnough heads.now }
@@ -148,7 +150,9 @@ fn may_have(turn: Turn, heads: &Extent, longest: i128) -> bool
     ensures { result ≡ false → NoneSoLongIsReached turn longest heads.now }
 {
     match heads.first {
-        Some(first) => is_in_reach(turn, first.finish, longest.min(heads.longest)),
+        Some(first) => {
+            heads.shortest <= longest && is_in_reach(turn, first.finish, longest.min(heads.longest))
+        }
         None => false,
     }
 }

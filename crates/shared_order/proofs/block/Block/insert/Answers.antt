@@ -1,14 +1,15 @@
-use Rattle.std.proofs.Common.{rules, arith, ◌≡◌, ◌∙◌, refl, sym, take, drop}
+use Rattle.std.proofs.Common.{rules, ap, ◌≡◌, ◌∙◌, refl, sym, take, drop}
 use Rattle.std.specs.List.{insert}
-use Rattle.std.proofs.lemmas.Int.{to_z-of_z}
 use Rattle.std.proofs.lemmas.List.{take-append-drop}
+use Rattle.shared_order.specs.Heads.{HeadView, with_length}
 use Rattle.shared_order.proofs.InBlock.{grown_at}
+use Rattle.shared_order.proofs.Searching.{reads_length}
 use Rattle.shared_order.proofs.block.Block.insert.Goals as goal
 
 pub invariant_of-self : goal.invariant_of-self
 invariant_of-self c =
     let items : c.insert.new.self.items ≡ insert c.self.inside.heads.items c.place_of-at.result c.args.head = search rules in
-    grown_at _ _ _ _ c.args.head c.place_of-at.result _ _ _ _ c.deref.ensures.value c.self.view_is items c.self.invariant c.place_of-at.ensures c.requires.new_request c.requires.room c.insert.ensures.capacity (grind (arith, to_z-of_z))
+    grown_at _ _ _ _ c.args.head c.place_of-at.result _ _ _ _ c.deref.ensures.value c.self.view_is items c.self.invariant c.place_of-at.ensures c.requires.new_request c.requires.room c.insert.ensures.capacity (c.with-self-inside.ensures ∙ ap (λ x. with_length c.self.inside.lengths x) (reads_length c.head.inside.len c.head.invariant.len_low c.head.invariant.len_high ∙ ap (λ (x : HeadView). x.len) c.head.view_is))
 
 pub returns-clause-sorted : goal.returns-clause-sorted
 returns-clause-sorted c =
