@@ -27,7 +27,7 @@ use Rattle.service_model.specs.Moments.{at_moment}
 use Rattle.service_model.specs.Idling.{with_end_of}
 use Rattle.service_model.specs.Room.{room_of, waiting_in}
 use Rattle.service_model.specs.Rolling.{submit_call, MakesWithRoom}
-use Rattle.service_model.specs.Limits.{goes_at_once, Releases}
+use Rattle.service_model.specs.Limits.{passes, goes_at_once, Releases}
 use Rattle.service_model.specs.Submission.{has_generation, is_too_many, is_tenant_full, submit_causes, submit_cause, slot_after, with_admitted, IsAdmitted, IsForwardedBy, GoesAtOnce, AnswersSubmit}
 use Rattle.service_model.specs.Reports.{with_named, use_of, NamesUse, AnswersUsed}
 use Rattle.service_model.specs.Finishing.{finished, with_ended, cost_at_end, Finishes}
@@ -38,7 +38,7 @@ use Rattle.service_model.specs.Answers.{coming, AnswersAt, Answers, moment_of_ca
 use Rattle.service_laws.proofs.Lists.{either}
 use Rattle.service_laws.proofs.Refreshed.{SameRequests, requests_stay, made_now, made_at, reported, refreshed}
 use Rattle.service_laws.proofs.Rolled.{IsBlind, with_room_slots, with_room_count}
-use Rattle.service_laws.proofs.Moves.{Becomes, Stays, Admits, IsClosed, making, end_stays, first_of_both, equal, onto, with_room, turned, releases, withdraws, cancels}
+use Rattle.service_laws.proofs.Moves.{Becomes, IsLetGo, passes_after, Stays, Admits, IsClosed, making, end_stays, first_of_both, equal, onto, with_room, turned, releases, withdraws, cancels}
 
 -- ---- the room of a service whose requests got other numbers
 
@@ -104,16 +104,23 @@ let_in c v m generation q e =
 
 -- it is admitted, and stands here
 abbrev pub admits_of : (c : ServiceConfig) (v : ServiceView) (m : ℕ) (q : Admitted) (next : Standing) → IsLetIn c v q
-    → is_waiting (record q { stands = next }) ≡ true → Admits c v (with_admitted v m (record q { stands = next }))
-admits_of c v m q next known waits = record {
+    → is_waiting (record q { stands = next }) ≡ true → IsLetGo next (passes c v q.slot q.kind ≡ true)
+    → Admits c v (with_admitted v m (record q { stands = next }))
+admits_of c v m q next known waits let_go = record {
   schedulers = record { present = refl; former = refl };
   q = record q { stands = next };
   has_tenant = known.has_tenant;
   enters = known.enters;
   waits = waits;
+  let_go = let_go;
   admitted = refl;
   slots = length-set v.slots q.slot (slot_after v q.slot m);
 }
+
+-- what goes at once passes the limits
+pub at_once : (c : ServiceConfig) (v : ServiceView) (slot kind : ℕ) → goes_at_once c v slot kind ≡ true
+    → passes c v slot kind ≡ true
+at_once c v slot kind e = first_of_both (passes c v slot kind) _ e
 
 -- a request that was let in before the scheduler made the call
 pub let_in_after : (c : ServiceConfig) (m : ℕ) (v : ServiceView) (asked : Call) (r : Reply) (u : ServiceView)
@@ -133,43 +140,45 @@ module _ (c : ServiceConfig) (R : ServiceView → ServiceView → Type 0) (k : I
   -- ---- submit
 
   is_admitted : (v : ServiceView) (m : ℕ) (q : Admitted) (next : Standing) (o : ServiceOutcome) (w : ServiceView)
-      → IsLetIn c v q → is_waiting (record q { stands = next }) ≡ true → IsAdmitted v m q next o w → R v w
-  is_admitted v m q next o w known waits x =
+      → IsLetIn c v q → is_waiting (record q { stands = next }) ≡ true → IsLetGo next (passes c v q.slot q.kind ≡ true)
+      → IsAdmitted v m q next o w → R v w
+  is_admitted v m q next o w known waits let_go x =
       let u : ServiceView = with_admitted v m (record q { stands = next }) in
-      onto c R k v u w (k.admits v u (admits_of c v m q next known waits)) x.1
+      onto c R k v u w (k.admits v u (admits_of c v m q next known waits let_go)) x.1
 
   by_reply : (r : Reply) (v : ServiceView) (m : ℕ) (q : Admitted) (o : ServiceOutcome) (w : ServiceView)
-      → IsLetIn c v q → IsForwardedBy r v m q o w → R v w
-  by_reply (answer.Request request) v m q o w known x = is_admitted v m q (Forwarded request) o w known refl x
-  by_reply (answer.Refused (cause.Full entries)) v m q o w known x = equal c R k v w x.1
-  by_reply (answer.Refused cause.Closed) v m q o w known x = absurd x
-  by_reply (answer.Refused (cause.Tenant t)) v m q o w known x = absurd x
-  by_reply (answer.Refused (cause.Kind n)) v m q o w known x = absurd x
-  by_reply (answer.Refused (cause.Cost n)) v m q o w known x = absurd x
-  by_reply (answer.Refused (cause.Slots n)) v m q o w known x = absurd x
-  by_reply (answer.Refused (cause.Worker n)) v m q o w known x = absurd x
-  by_reply (answer.Refused (cause.Busy n)) v m q o w known x = absurd x
-  by_reply (answer.Refused cause.NotRunning) v m q o w known x = absurd x
-  by_reply (answer.Refused (cause.Falling last given)) v m q o w known x = absurd x
-  by_reply (answer.Refused (cause.Weight n)) v m q o w known x = absurd x
-  by_reply (answer.Refused (cause.Workers n)) v m q o w known x = absurd x
-  by_reply (answer.Refused (cause.NotWaiting n)) v m q o w known x = absurd x
-  by_reply (answer.Run request estimate label) v m q o w known x = absurd x
-  by_reply answer.Accepted v m q o w known x = absurd x
-  by_reply answer.Idle v m q o w known x = absurd x
-  by_reply answer.Drained v m q o w known x = absurd x
-  by_reply (answer.Retired n) v m q o w known x = absurd x
-  by_reply (answer.Withdrawn label) v m q o w known x = absurd x
+      → IsLetIn c v q → passes c v q.slot q.kind ≡ true → IsForwardedBy r v m q o w → R v w
+  by_reply (answer.Request request) v m q o w known let_go x = is_admitted v m q (Forwarded request) o w known refl let_go x
+  by_reply (answer.Refused (cause.Full entries)) v m q o w known let_go x = equal c R k v w x.1
+  by_reply (answer.Refused cause.Closed) v m q o w known let_go x = absurd x
+  by_reply (answer.Refused (cause.Tenant t)) v m q o w known let_go x = absurd x
+  by_reply (answer.Refused (cause.Kind n)) v m q o w known let_go x = absurd x
+  by_reply (answer.Refused (cause.Cost n)) v m q o w known let_go x = absurd x
+  by_reply (answer.Refused (cause.Slots n)) v m q o w known let_go x = absurd x
+  by_reply (answer.Refused (cause.Worker n)) v m q o w known let_go x = absurd x
+  by_reply (answer.Refused (cause.Busy n)) v m q o w known let_go x = absurd x
+  by_reply (answer.Refused cause.NotRunning) v m q o w known let_go x = absurd x
+  by_reply (answer.Refused (cause.Falling last given)) v m q o w known let_go x = absurd x
+  by_reply (answer.Refused (cause.Weight n)) v m q o w known let_go x = absurd x
+  by_reply (answer.Refused (cause.Workers n)) v m q o w known let_go x = absurd x
+  by_reply (answer.Refused (cause.NotWaiting n)) v m q o w known let_go x = absurd x
+  by_reply (answer.Run request estimate label) v m q o w known let_go x = absurd x
+  by_reply answer.Accepted v m q o w known let_go x = absurd x
+  by_reply answer.Idle v m q o w known let_go x = absurd x
+  by_reply answer.Drained v m q o w known let_go x = absurd x
+  by_reply (answer.Retired n) v m q o w known let_go x = absurd x
+  by_reply (answer.Withdrawn label) v m q o w known let_go x = absurd x
 
   submits : (m : ℕ) (v : ServiceView) (q : Admitted) (o : ServiceOutcome) (w : ServiceView) → IsLetIn c v q
       → AnswersSubmit c m v q o w → R v w
   submits m v q o w known =
       either (goes_at_once c v q.slot q.kind) (GoesAtOnce c m v q o w) (IsAdmitted v m q Held o w) (R v w)
-      (λ _ x. k.joins v x.made w
+      (λ go x. k.joins v x.made w
       (with_room c R k m v (submit_call c m q) x.reply x.made x.makes)
       (by_reply x.reply x.made m q o w
-      (let_in_after c m v (submit_call c m q) x.reply x.made q x.makes known) x.answered))
-      (λ _ x. is_admitted v m q Held o w known refl x)
+      (let_in_after c m v (submit_call c m q) x.reply x.made q x.makes known)
+      (passes_after c m v (submit_call c m q) x.reply x.made q x.makes (at_once c v q.slot q.kind go)) x.answered))
+      (λ _ x. is_admitted v m q Held o w known refl tt x)
 
   comes : (why : Option ServiceRefusal) (m : ℕ) (v : ServiceView) (generation : ℕ) (q : Admitted)
       (o : ServiceOutcome) (w : ServiceView) → submit_cause c v m generation q ≡ why
@@ -236,7 +245,7 @@ module _ (c : ServiceConfig) (R : ServiceView → ServiceView → Type 0) (k : I
       let u : ServiceView = with_standing v x.ticket x.q (Runs later) in
       k.joins v u w
       (turned c R k v u x.ticket x.q (Runs later) x.runs.admitted
-      (subst (λ s. Becomes s (Runs later)) (sym x.runs.stands) refl) (record { present = refl; former = refl }) refl refl)
+      (subst (λ s. Becomes s (Runs later)) (sym x.runs.stands) refl) tt (record { present = refl; former = refl }) refl refl)
       (reported R (making c R k) c m u x.run used w x.reports)
 
   uses : (m : ℕ) (v : ServiceView) (worker cost : ℕ) (o : ServiceOutcome) (w : ServiceView)
@@ -267,7 +276,7 @@ module _ (c : ServiceConfig) (R : ServiceView → ServiceView → Type 0) (k : I
       let ended : R x.made x.ended =
       onto c R k x.made (with_ended m x.made x.ticket x.q x.run cost_is) x.ended
       (k.joins x.made t (with_ended m x.made x.ticket x.q x.run cost_is)
-      (turned c R k x.made t x.ticket x.q Ended there (subst (λ s. Becomes s Ended) (sym x.runs.stands) tt) (record { present = refl; former = refl }) refl refl)
+      (turned c R k x.made t x.ticket x.q Ended there (subst (λ s. Becomes s Ended) (sym x.runs.stands) tt) tt (record { present = refl; former = refl }) refl refl)
       (k.stays t (with_end_of t x.q.slot) (end_stays t x.q.slot)))
       x.ended_is in
       let released : R v x.released =
@@ -300,7 +309,7 @@ module _ (c : ServiceConfig) (R : ServiceView → ServiceView → Type 0) (k : I
       k.joins v x.made w
       (k.makes_now v asked reply x.made x.makes)
       (onto c R k x.made u w
-      (turned c R k x.made u x.ticket x.q (Runs run) there (subst (λ s. Becomes s (Runs run)) (sym x.stands) tt) (record { present = refl; former = refl }) refl refl)
+      (turned c R k x.made u x.ticket x.q (Runs run) there (subst (λ s. Becomes s (Runs run)) (sym x.stands) tt) tt (record { present = refl; former = refl }) refl refl)
       x.after)
 
   rests : (m : ℕ) (v : ServiceView) (declining : ℕ) (o : ServiceOutcome) (w : ServiceView) → Rests m v declining o w

@@ -18,7 +18,7 @@ use Rattle.service_model.specs.Moments.{at_moment}
 use Rattle.service_model.specs.Room.{room_of}
 use Rattle.service_model.specs.Rows.{RefusedOrElse}
 use Rattle.service_model.specs.Rolling.{submit_call}
-use Rattle.service_model.specs.Limits.{goes_at_once}
+use Rattle.service_model.specs.Limits.{passes, goes_at_once}
 use Rattle.service_model.specs.Submission.{submit_cause, with_admitted, IsAdmitted, IsForwardedBy, GoesAtOnce, AnswersSubmit}
 use Rattle.service_model.specs.Changes.{is_close_due, ClosesScheduler}
 use Rattle.service_model.specs.Answers.{coming, AnswersAt}
@@ -27,7 +27,8 @@ use Rattle.service_model.specs.Laws.{IsSubmitFor, FloodsAreHalved}
 use Rattle.service_laws.proofs.Lists.{either, some_same}
 use Rattle.service_laws.proofs.Refreshed.{SameRequests, made_now}
 use Rattle.service_laws.proofs.Rolled.{with_room_slots}
-use Rattle.service_laws.proofs.Calls.{IsLetIn, let_in, let_in_after, admits_of}
+use Rattle.service_laws.proofs.Moves.{IsLetGo, passes_after}
+use Rattle.service_laws.proofs.Calls.{IsLetIn, at_once, let_in, let_in_after, admits_of}
 use Rattle.service_laws.proofs.Calls as calls
 use Rattle.service_laws.proofs.Rooms.{HasRoom, room_same, room_entered, size_is, slot_is_there}
 use Rattle.service_laws.proofs.RoomLaws.{named_fits}
@@ -46,49 +47,50 @@ module _ (c : ServiceConfig) (sound : service_fault c ≡ None) where
 
   by_admission : (v : ServiceView) (m : ℕ) (q : Admitted) (next : Standing) (o : ServiceOutcome) (w : ServiceView)
       → length v.slots ≡ length c.scheduler.weights → IsLetIn c v q → is_waiting (record q { stands = next }) ≡ true
-      → IsAdmitted v m q next o w → room_of c w ≡ entered (room_of c v) q.slot
-  by_admission v m q next o w slots known waits x =
+      → IsLetGo next (passes c v q.slot q.kind ≡ true) → IsAdmitted v m q next o w → room_of c w ≡ entered (room_of c v) q.slot
+  by_admission v m q next o w slots known waits let_go x =
       ap (room_of c) x.1
       ∙ room_entered c (named_fits c sound) v (with_admitted v m (record q { stands = next }))
-      (admits_of c v m q next known waits) slots
+      (admits_of c v m q next known waits let_go) slots
 
   module _ (v : ServiceView) (slots : length v.slots ≡ length c.scheduler.weights) (o : ServiceOutcome) (w : ServiceView)
       (ticket : IsTicket o) where
     by_reply : (r : Reply) (u : ServiceView) (m : ℕ) (q : Admitted) → length u.slots ≡ length c.scheduler.weights
-        → IsLetIn c u q → IsForwardedBy r u m q o w → room_of c w ≡ entered (room_of c u) q.slot
-    by_reply (answer.Request request) u m q long known x = by_admission u m q (Forwarded request) o w long known refl x
-    by_reply (answer.Refused (cause.Full entries)) u m q long known x = absurd (subst IsTicket x.0 ticket)
-    by_reply (answer.Refused cause.Closed) u m q long known x = absurd x
-    by_reply (answer.Refused (cause.Tenant t)) u m q long known x = absurd x
-    by_reply (answer.Refused (cause.Kind n)) u m q long known x = absurd x
-    by_reply (answer.Refused (cause.Cost n)) u m q long known x = absurd x
-    by_reply (answer.Refused (cause.Slots n)) u m q long known x = absurd x
-    by_reply (answer.Refused (cause.Worker n)) u m q long known x = absurd x
-    by_reply (answer.Refused (cause.Busy n)) u m q long known x = absurd x
-    by_reply (answer.Refused cause.NotRunning) u m q long known x = absurd x
-    by_reply (answer.Refused (cause.Falling last given)) u m q long known x = absurd x
-    by_reply (answer.Refused (cause.Weight n)) u m q long known x = absurd x
-    by_reply (answer.Refused (cause.Workers n)) u m q long known x = absurd x
-    by_reply (answer.Refused (cause.NotWaiting n)) u m q long known x = absurd x
-    by_reply (answer.Run request estimate label) u m q long known x = absurd x
-    by_reply answer.Accepted u m q long known x = absurd x
-    by_reply answer.Idle u m q long known x = absurd x
-    by_reply answer.Drained u m q long known x = absurd x
-    by_reply (answer.Retired n) u m q long known x = absurd x
-    by_reply (answer.Withdrawn label) u m q long known x = absurd x
+        → IsLetIn c u q → passes c u q.slot q.kind ≡ true → IsForwardedBy r u m q o w → room_of c w ≡ entered (room_of c u) q.slot
+    by_reply (answer.Request request) u m q long known let_go x = by_admission u m q (Forwarded request) o w long known refl let_go x
+    by_reply (answer.Refused (cause.Full entries)) u m q long known let_go x = absurd (subst IsTicket x.0 ticket)
+    by_reply (answer.Refused cause.Closed) u m q long known let_go x = absurd x
+    by_reply (answer.Refused (cause.Tenant t)) u m q long known let_go x = absurd x
+    by_reply (answer.Refused (cause.Kind n)) u m q long known let_go x = absurd x
+    by_reply (answer.Refused (cause.Cost n)) u m q long known let_go x = absurd x
+    by_reply (answer.Refused (cause.Slots n)) u m q long known let_go x = absurd x
+    by_reply (answer.Refused (cause.Worker n)) u m q long known let_go x = absurd x
+    by_reply (answer.Refused (cause.Busy n)) u m q long known let_go x = absurd x
+    by_reply (answer.Refused cause.NotRunning) u m q long known let_go x = absurd x
+    by_reply (answer.Refused (cause.Falling last given)) u m q long known let_go x = absurd x
+    by_reply (answer.Refused (cause.Weight n)) u m q long known let_go x = absurd x
+    by_reply (answer.Refused (cause.Workers n)) u m q long known let_go x = absurd x
+    by_reply (answer.Refused (cause.NotWaiting n)) u m q long known let_go x = absurd x
+    by_reply (answer.Run request estimate label) u m q long known let_go x = absurd x
+    by_reply answer.Accepted u m q long known let_go x = absurd x
+    by_reply answer.Idle u m q long known let_go x = absurd x
+    by_reply answer.Drained u m q long known let_go x = absurd x
+    by_reply (answer.Retired n) u m q long known let_go x = absurd x
+    by_reply (answer.Withdrawn label) u m q long known let_go x = absurd x
 
     by_submit : (m : ℕ) (q : Admitted) → IsLetIn c v q → AnswersSubmit c m v q o w
         → room_of c w ≡ entered (room_of c v) q.slot
     by_submit m q known =
         either (goes_at_once c v q.slot q.kind) (GoesAtOnce c m v q o w) (IsAdmitted v m q Held o w)
         (room_of c w ≡ entered (room_of c v) q.slot)
-        (λ _ x.
+        (λ go x.
         by_reply x.reply x.made m q
         (ap length (with_room_slots c m v (submit_call c m q) x.reply x.made x.makes) ∙ slots)
         (let_in_after c m v (submit_call c m q) x.reply x.made q x.makes known)
+        (passes_after c m v (submit_call c m q) x.reply x.made q x.makes (at_once c v q.slot q.kind go))
         x.answered
         ∙ ap (λ r. entered r q.slot) (calls.room_same c m v (submit_call c m q) x.reply x.made x.makes))
-        (λ _ x. by_admission v m q Held o w slots known refl x)
+        (λ _ x. by_admission v m q Held o w slots known refl tt x)
 
     by_causes : (why : Option ServiceRefusal) (m generation : ℕ) (q : Admitted) → submit_cause c v m generation q ≡ why
         → RefusedOrElse why v o w (AnswersSubmit c m v q o w) → Entered v q.slot w

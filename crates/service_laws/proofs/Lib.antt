@@ -11,3 +11,4 @@ pub mod RoomLaws
 pub mod Admissions
 pub mod Floods
 pub mod Serving
+pub mod KindLimits

@@ -40,6 +40,12 @@ count_set test qs ticket q p at =
 abbrev pub waits : Standing → Bool
 waits s = stands_held s || stands_forwarded s
 
+pub count_push : (test : Admitted → Bool) (qs : List Admitted) (q : Admitted)
+    → count_by test (qs ++ q ∷ []) ≡ count_by test qs + one test q
+count_push test qs q =
+    let all = sum_by-append (λ (x : Admitted). as_one (test x)) qs (q ∷ []) in
+    omega (arith, all, sum_by-cons (λ (x : Admitted). as_one (test x)) q [])
+
 -- the request is of a slot below this
 abbrev pub IsBelow : ℕ → Admitted → Type 0
 IsBelow bound q = q.slot < bound
@@ -108,7 +114,7 @@ module _ (c : ServiceConfig) where
 
 -- ---- one request stands elsewhere
 
-apart : (a b : ℕ) → a ≢ b → (a == b) ≡ false
+pub apart : (a b : ℕ) → a ≢ b → (a == b) ≡ false
 apart a b ne = elim (eqb_tells a b) [
   | inl same ↦ absurd (ne same.1)
   | inr other ↦ other.0
@@ -125,7 +131,7 @@ same_one : (q : Admitted) (next : Standing) (slot : ℕ) → waits next ≡ wait
     → one (of_slot slot is_waiting) (record q { stands = next }) ≡ one (of_slot slot is_waiting) q
 same_one q next slot e = ap (λ b. as_one ((q.slot == slot) && b)) e
 
-module _ (v w : ServiceView) (x : Turns v w) where
+module _ (c : ServiceConfig) (v w : ServiceView) (x : Turns c v w) where
   counts : (slot : ℕ) → waiting_in w slot + one (of_slot slot is_waiting) x.q
       ≡ waiting_in v slot + one (of_slot slot is_waiting) (record x.q { stands = x.next })
   counts slot =
@@ -247,19 +253,19 @@ module _ (c : ServiceConfig) (named : c.named ≤ length c.scheduler.weights) wh
       subst (IsBelow (length v.slots)) (get_or_from_slice_get v.admitted ticket q q at)
       (All-get_or (IsBelow (length v.slots)) v.admitted ticket q (slice_get_within v.admitted ticket q at) all)
 
-  known_after : (v w : ServiceView) (x : Turns v w) → All (IsBelow (length v.slots)) v.admitted
+  known_after : (v w : ServiceView) (x : Turns c v w) → All (IsBelow (length v.slots)) v.admitted
       → All (IsBelow (length v.slots)) w.admitted
   known_after v w x all =
       subst (All (IsBelow (length v.slots))) (sym x.admitted)
       (All-set (IsBelow (length v.slots)) v.admitted x.ticket (record x.q { stands = x.next })
       (slot_of v x.ticket x.q x.there all) all)
 
-  leaves : (v w : ServiceView) (x : Turns v w) → waits x.q.stands ≡ true → waits x.next ≡ false → KeepsRoom v w
+  leaves : (v w : ServiceView) (x : Turns c v w) → waits x.q.stands ≡ true → waits x.next ≡ false → KeepsRoom v w
   leaves v w x was is = record {
     slots = x.slots;
     room = λ h.
         let within = slot_of v x.ticket x.q x.there h.known in
-        let own = turned_own v w x was is in
+        let own = turned_own c v w x was is in
         let here = waiting_at c v x.q.slot within in
         record {
           slots = x.slots ∙ h.slots;
@@ -273,24 +279,18 @@ module _ (c : ServiceConfig) (named : c.named ≤ length c.scheduler.weights) wh
           room =
               ap (λ r. left r x.q.slot) h.room
               ∙ ap (with_waiting (room_of c v) x.q.slot) (omega (arith, own, here))
-              ∙ sym (room_with c v w x.q.slot (waiting_in w x.q.slot) within x.slots refl (turned_other v w x));
+              ∙ sym (room_with c v w x.q.slot (waiting_in w x.q.slot) within x.slots refl (turned_other c v w x));
         };
   }
 
-  turns : (v w : ServiceView) → Turns v w → KeepsRoom v w
+  turns : (v w : ServiceView) → Turns c v w → KeepsRoom v w
   unfolding Turning
   turns v w x = elim (turning x.q.stands x.next x.becomes) [
-    | inl same ↦ same_room v w x.slots (room_same c v w x.slots (turned_same v w x same)) (known_after v w x)
+    | inl same ↦ same_room v w x.slots (room_same c v w x.slots (turned_same c v w x same)) (known_after v w x)
     | inr gone ↦ leaves v w x gone.0 gone.1
   ]
 
   -- ---- an admission
-
-  count_push : (test : Admitted → Bool) (qs : List Admitted) (q : Admitted)
-      → count_by test (qs ++ q ∷ []) ≡ count_by test qs + one test q
-  count_push test qs q =
-      let all = sum_by-append (λ (x : Admitted). as_one (test x)) qs (q ∷ []) in
-      omega (arith, all, sum_by-cons (λ (x : Admitted). as_one (test x)) q [])
 
   -- a slot that has a tenant is there
   pub slot_is_there : (v : ServiceView) (slot : ℕ) → length v.slots ≡ length c.scheduler.weights

@@ -1,5 +1,5 @@
 //! The laws, one function a law: its contract is the law, and its body is empty.
-ghost use Rattle.service_model.specs.Laws.{FloodsAreHalved, NoGrantIsLate, OwnPlacesAreKept, RestsForCause, RoomIsKept, SchedulersAreLegal, WaitingFitsRoom};
+ghost use Rattle.service_model.specs.Laws.{FloodsAreHalved, KindLimitsAreKept, NoGrantIsLate, OwnPlacesAreKept, RestsForCause, RoomIsKept, SchedulersAreLegal, WaitingFitsRoom};
 
 /// What waits came to the room as the room lets it, so that all laws of the room hold.
 pub fn room_is_kept()
@@ -20,6 +20,11 @@ pub fn own_places_are_kept()
 /// than are free, so that a flood of one tenant leaves half of the shared places to others, rounded down.
 pub fn floods_are_halved()
     ensures { FloodsAreHalved }
+{}
+
+/// Of a tenant and kind no more requests are forwarded and not ended than the limit of the kind.
+pub fn kind_limits_are_kept()
+    ensures { KindLimitsAreKept }
 {}
 
 /// Nothing is granted after its deadline.
