@@ -1,5 +1,5 @@
 //! The greatest and the least length of heads.
-ghost use Rattle.std.specs.Prelude.{◌≡◌, ◌≢◌, [], false};
+ghost use Rattle.std.specs.Prelude.{◌≡◌, ◌≢◌, ◌⊎◌, [], true, false};
 ghost use Rattle.shared_order.specs.Heads.{lengths_of, with_length, joined_lengths};
 
 use fq_model::limits::GREATEST_LENGTH;
@@ -48,7 +48,8 @@ impl Lengths {
     /// Whether this is one of the two, so that a head which leaves may change them.
     #[inline]
     pub fn has(self, len: i128) -> bool
-        ensures { result ≡ false → (self.longest ≢ len) × (self.shortest ≢ len) }
+        ensures one { result ≡ true → (self.longest ≡ len) ⊎ (self.shortest ≡ len) }
+        ensures none { result ≡ false → (self.longest ≢ len) × (self.shortest ≢ len) }
     {
         self.longest == len || self.shortest == len
     }

@@ -22,7 +22,7 @@ pub invariant_of-self-else-has : goal.invariant_of-self-else-has
 invariant_of-self-else-has c =
     let used = ap (λ v. v.used) c.self.view_is in let known : c.args.at < length c.self.inside.blocks.used = rw used c.requires.known in
     let old = c.self.inside.blocks in let new = c.remove.new.self in
-    let stays = number_left old.used new.used c.args.at c.args.head c.self.inside.lengths.items c.index.result.now _ known c.remove.ensures.used c.self.invariant.all c.index.ensures (reads_length c.head.inside.len c.head.invariant.len_low c.head.invariant.len_high ∙ ap (λ (h : HeadView). h.len) c.head.view_is) (c.has.ensures c.if-has.false) in
+    let stays = number_left old.used new.used c.args.at c.args.head c.self.inside.lengths.items c.index.result.now _ known c.remove.ensures.used c.self.invariant.all c.index.ensures (reads_length c.head.inside.len c.head.invariant.len_low c.head.invariant.len_high ∙ ap (λ (h : HeadView). h.len) c.head.view_is) (c.has.ensures.none c.if-has.false) in
     record {
       all = number_stays old.used new.used c.args.at _ c.self.inside.lengths.items c.remove.ensures.used.others c.self.invariant.all stays;
       room = room_stays old new _ (leaves_count old.used new.used c.args.at c.args.head c.remove.ensures.used) c.remove.ensures.spare c.self.invariant.room;
