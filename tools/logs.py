@@ -59,15 +59,34 @@ def value(columns, name, path):
     return found
 
 
+def member_of(name):
+    """The function that gives a column by its name, as `member` does, and None where it is not there."""
+    first, _, rest = name.partition(".")
+    inner = member_of(rest) if rest else None
+
+    def get(columns):
+        found = columns.get(name)
+        if found is None and inner:
+            outer = columns.get(first)
+            return inner(outer) if isinstance(outer, dict) else None
+        return found
+
+    return get
+
+
 def values_of(names, path):
     """The function that gives the texts of these columns of a line, two and more."""
-    pick = operator.itemgetter(*names)
+    single = list(dict.fromkeys(names))
+    # (with the first again, since one alone would give no tuple)
+    pick = operator.itemgetter(*single, single[0])
+    gets, order = [member_of(it) for it in single], operator.itemgetter(*map(single.index, names))
+    has_paths = any("." in it for it in single)
 
     def values(columns):
         try:
-            found = pick(columns)
+            found = [get(columns) for get in gets] if has_paths else pick(columns)
             if set(map(type, found)) == TEXTS:
-                return found
+                return order(found)
         except KeyError:
             pass
         return [value(columns, name, path) for name in names]
@@ -92,13 +111,11 @@ def opened_log(name):
 
 def told_lines(file, progress):
     """The lines of a file, whose progress is counted now and then."""
-    count = 0
-    for line in file:
-        count += len(line)
-        if count > MOST_UNTOLD:
-            progress.add(count)
-            count = 0
-        yield line
+    lines = file.readlines(MOST_UNTOLD)
+    while lines:
+        progress.add(sum(map(len, lines)))
+        yield from lines
+        lines = file.readlines(MOST_UNTOLD)
 
 
 def rows_of_file(rows, lines, needed, name):
@@ -139,10 +156,10 @@ def expect_log(line, name):
 
 def known(lines, name):
     """The lines of a log."""
-    for line in itertools.islice(lines, 1):
+    first = list(itertools.islice(lines, 1))
+    for line in first:
         expect_log(line, name)
-        yield line
-    yield from lines
+    return itertools.chain(first, lines)
 
 
 def shown(line):
