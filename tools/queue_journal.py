@@ -2,9 +2,10 @@
 
 import collections
 import heapq
+import io
 import itertools
 
-from journal import ONE_QUEUE
+from journal import ONE_QUEUE, Journal
 
 # The order of entries of one moment.
 DONE, SUBMIT, TAKE = range(3)
@@ -12,18 +13,28 @@ DONE, SUBMIT, TAKE = range(3)
 CALLERS = 64
 
 
+def services_of(requests, workers):
+    """The worker of each request and the moment of its take."""
+    free = [(0, worker) for worker in range(workers)]
+    for it in requests:
+        since, worker = heapq.heappop(free)
+        taken = max(since, it.moment)
+        heapq.heappush(free, (taken + it.cost, worker))
+        yield worker, taken
+
+
+def takes_of(requests, workers):
+    """The moment of each request's take."""
+    return [taken for _, taken in services_of(requests, workers)]
+
+
 def entries_of(requests, workers):
     """The entries of requests: of each its moment, its place among those of one moment (dones go by workers, and all
     else by requests), its request, and its worker."""
-    free = [(0, worker) for worker in range(workers)]
-    for number, it in enumerate(requests):
-        since, worker = heapq.heappop(free)
-        taken = max(since, it.moment)
-        done = taken + it.cost
-        heapq.heappush(free, (done, worker))
+    for number, (it, (worker, taken)) in enumerate(zip(requests, services_of(requests, workers))):
         yield it.moment, SUBMIT, number, number, None
         yield taken, TAKE, number, number, worker
-        yield done, DONE, worker, number, worker
+        yield taken + it.cost, DONE, worker, number, worker
 
 
 class Limited:
@@ -94,3 +105,9 @@ def journal_of(trace, workers, limits=()):
         else:
             yield f"done {CALLERS + worker} {end} {worker} {number} {it.cost}"
     yield f"close 0 {end}"
+
+
+def queued(trace, workers, name, limits=()):
+    """The journal of a trace in one queue, as it is read."""
+    text = "".join(line + "\n" for line in journal_of(trace, workers, limits)).encode(errors="surrogateescape")
+    return Journal(io.TextIOWrapper(io.BytesIO(text)), name).whole()
