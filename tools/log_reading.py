@@ -239,7 +239,7 @@ def called(given):
 
 
 def trace_of_logs(given):
-    """The trace of the logs, and what is to be told of it."""
+    """The trace of the logs, what is to be told of it, and the time at which it begins."""
     # (no object that is kept here refers to itself)
     gc.disable()
     expect_room(given)
@@ -254,4 +254,4 @@ def trace_of_logs(given):
     notes = [f"{place or name}: {line}" for place, line in clock_notes(given, reader.seen, came, reader.rows)]
     lines = [*arrival_notes(given), *part_notes(given, reader.seen), *names]
     lines += passed_notes(reader.skipped, reader.passed)
-    return text, notes + [f"{name}: {line}" for line in lines]
+    return text, notes + [f"{name}: {line}" for line in lines], came[0][0]

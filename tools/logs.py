@@ -16,12 +16,14 @@ from log_formats import PART, Passed, words_of
 from log_times import Unread
 from tool import Fault, Progress, printable
 
-# The greatest part of a line that is shown, and the number of letters after which progress is counted.
-MOST_SHOWN, MOST_UNTOLD = 160, 100_000
+# The greatest part of a line that is shown, the number of letters after which progress is counted, and the greatest
+# number of bytes by which a trace is known.
+MOST_SHOWN, MOST_UNTOLD, MOST_PEEKED = 160, 100_000, 4096
 FORMATS = {**log_formats.FORMATS, **log_servers.FORMATS}
 # What begins the texts of this program, and what reads them.
+TRACE = re.compile(r"tenant,[^,]*,\d+$|request,\d+,\d+,")
 OURS = {
-    r"tenant,[^,]*,\d+$|request,\d+,\d+,": "a trace: give it to ./twodfq run or tools/one_queue",
+    TRACE.pattern: "a trace: give it to ./twodfq run or tools/one_queue",
     r"journal [1-9]$": "a journal: give it to tools/turnaround",
     r"(script|report) [1-9]$": "no log, but a text of this program: docs/FORMATS.md tells what reads it",
 }
@@ -145,6 +147,17 @@ def rows_of(file, format_name, needed, name, progress):
         except (Passed, Unread) as why:
             columns = why
         yield number, line, columns
+
+
+def is_trace(name):
+    """Whether a file, or standard input for `-`, begins as a trace does."""
+    file = sys.stdin.buffer if name == "-" else open(name, "rb")
+    try:
+        begin = file.peek(MOST_PEEKED)[:MOST_PEEKED].lstrip(b"\xef\xbb\xbf").lstrip().partition(b"\n")[0]
+    finally:
+        if name != "-":
+            file.close()
+    return bool(TRACE.match(begin.decode(errors="replace").rstrip("\r")))
 
 
 def expect_log(line, name):

@@ -1,9 +1,7 @@
 """Makes the journal of a trace in one queue, for `one_queue` and `report`."""
 
-import collections
 import heapq
 import io
-import itertools
 
 from journal import ONE_QUEUE, Journal
 
@@ -37,55 +35,8 @@ def entries_of(requests, workers):
         yield taken + it.cost, DONE, worker, number, worker
 
 
-class Limited:
-    """One queue in which some tenants have at most so many workers at once: a worker that is free takes the request
-    that came first of those that may run."""
-
-    def __init__(self, requests, workers, limits):
-        self.requests, self.workers, self.limits = requests, workers, limits
-        self.free, self.busy = list(range(workers)), []
-        # (requests of tenants without a limit wait together, as those of None)
-        self.waiting, self.running = collections.defaultdict(collections.deque), collections.Counter()
-
-    def group(self, number):
-        tenant = self.requests[number].tenant
-        return tenant if tenant in self.limits else None
-
-    def started(self, now):
-        """The requests that are taken now, with their workers."""
-        while self.free:
-            may = lambda it: self.waiting[it] and self.running[it] < self.limits.get(it, self.workers)
-            heads = [(self.waiting[it][0], it) for it in list(self.waiting) if may(it)]
-            if not heads:
-                return
-            number, group = min(heads, key=lambda it: it[0])
-            worker = heapq.heappop(self.free)
-            self.waiting[group].popleft()
-            self.running[group] += 1
-            heapq.heappush(self.busy, (now + self.requests[number].cost, worker, number))
-            yield number, worker
-
-    def entries(self):
-        """The entries, as `entries_of` has them."""
-        coming = collections.deque(range(len(self.requests)))
-        while coming or self.busy:
-            comes = [self.requests[it].moment for it in itertools.islice(coming, 1)]
-            now = min(comes + [done for done, _, _ in self.busy[:1]])
-            while self.busy and self.busy[0][0] == now:
-                _, worker, number = heapq.heappop(self.busy)
-                self.running[self.group(number)] -= 1
-                heapq.heappush(self.free, worker)
-                yield now, DONE, worker, number, worker
-            while coming and self.requests[coming[0]].moment == now:
-                number = coming.popleft()
-                self.waiting[self.group(number)].append(number)
-                yield now, SUBMIT, number, number, None
-            for number, worker in self.started(now):
-                yield now, TAKE, number, number, worker
-
-
-def journal_of(trace, workers, limits=()):
-    """The lines of the journal, in which some tenants may have limits: so many workers at once."""
+def journal_of(trace, workers):
+    """The lines of the journal."""
     requests = trace.requests
     tenants = {name: number for number, name in enumerate(trace.weights)}
     kinds = {name: number for number, name in enumerate(dict.fromkeys(it.kind for it in requests) or ["-"])}
@@ -94,8 +45,7 @@ def journal_of(trace, workers, limits=()):
     yield from (f"tenant {name} {weight}" for name, weight in trace.weights.items())
     yield from (f"kind {name}" for name in kinds)
     end = 0
-    found = Limited(requests, workers, limits).entries() if limits else entries_of(requests, workers)
-    for end, what, _, number, worker in sorted(found, key=lambda it: it[:3]):
+    for end, what, _, number, worker in sorted(entries_of(requests, workers), key=lambda it: it[:3]):
         it = requests[number]
         if what == SUBMIT:
             tenant, kind = tenants[it.tenant], kinds[it.kind]
@@ -107,7 +57,7 @@ def journal_of(trace, workers, limits=()):
     yield f"close 0 {end}"
 
 
-def queued(trace, workers, name, limits=()):
+def queued(trace, workers, name):
     """The journal of a trace in one queue, as it is read."""
-    text = "".join(line + "\n" for line in journal_of(trace, workers, limits)).encode(errors="surrogateescape")
+    text = "".join(line + "\n" for line in journal_of(trace, workers)).encode(errors="surrogateescape")
     return Journal(io.TextIOWrapper(io.BytesIO(text)), name).whole()
