@@ -298,7 +298,8 @@ def sentences(journal, verdict):
         for_whom = f"{100 * part:.0f}% of it while {names} ran"
         yield f"{name} waited {human(waited)}, {how}and was short by {100 * short:.0f}% of its due: {for_whom}"
     if len(rows) > MOST_TOLD:
-        yield f"{len(rows) - MOST_TOLD} more were short of their due"
+        more = len(rows) - MOST_TOLD
+        yield f"{more} more {'was short of its' if more == 1 else 'were short of their'} due"
 
 
 def verdict_table(journal, verdict):

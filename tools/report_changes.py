@@ -6,7 +6,7 @@ import reserve
 from changes import ONE_QUEUE, Change, described, served
 from program import Count
 from tables import Column, Name, Table, Time, human
-from tool import percentile, processors
+from tool import counted, percentile, processors
 
 MOST_WORKERS = 64
 # By how much the weight of culprits is less, and the greatest weight.
@@ -114,5 +114,5 @@ def wanted_sentences(trials, wanted):
     """How many workers there have to be for a wanted percentile."""
     for name, change in (("one queue", QUEUE), ("2dfq+", PLUS)):
         least = trials.least_workers(change, wanted)
-        count = f"{least} workers" if least else f"more than {MOST_WORKERS} workers"
+        count = counted(least, "worker") if least else f"more than {MOST_WORKERS} workers"
         yield f"{name} needs {count} for waits of at most {human(wanted)} at the 99th percentile"

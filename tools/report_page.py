@@ -40,7 +40,7 @@ def workers_part(today, shown, verdict):
 def page(facts, pairs, today, verdict, shown):
     """The whole report."""
     notes = "".join(f"<li>{html.escape(it)}</li>\n" for it in facts["notes"])
-    for_whom = pairs_picture(today, verdict) if verdict.victims else ""
+    for_whom = pairs_picture(today, verdict, shown) if verdict.victims else ""
     needed = f"{paragraphs(facts['wanted'])}{table_in_html(facts['workers_needed'])}"
     parts = [
         '<!DOCTYPE html>\n<html lang="en">\n<meta charset="utf-8">\n<title>Who waits for whom</title>\n',

@@ -21,12 +21,12 @@ def inline(picture):
 
 def curves(journal, tenants):
     """The greatest waits of tenants over time: of each its points, the ends of columns and the waits that end there."""
-    width, found = journal.now // COLUMNS + 1, {tenant: [0] * COLUMNS for tenant in tenants}
+    width, found = journal.now // COLUMNS + 1, {tenant: {} for tenant in tenants}
     for tenant, came, taken in zip(journal.tenant, journal.submitted, journal.taken):
         if taken is not None and tenant in found:
             own, place = found[tenant], taken // width
-            own[place] = max(own[place], taken - came)
-    return {tenant: [((place + 1) * width, it) for place, it in enumerate(own)] for tenant, own in found.items()}
+            own[place] = max(own.get(place, 0), taken - came)
+    return {tenant: [((place + 1) * width, own[place]) for place in sorted(own)] for tenant, own in found.items()}
 
 
 def waits_picture(journal, tenants):
@@ -41,7 +41,8 @@ def waits_picture(journal, tenants):
     for tenant, points in found.items():
         at = " ".join(f"{panel.x(moment):.2f},{panel.y(wait):.2f}" for moment, wait in points)
         name = journal.tenants[tenant]
-        elements.append(element("polyline", title=name, points=at, fill="none", stroke=color_of[name]))
+        style = {"fill": "none", "stroke": color_of[name], "stroke_width": 1.5, "stroke_linecap": "round"}
+        elements.append(element("polyline", title=name, points=at, **style))
     elements += [panel.frame(), *legend(LEFT + WIDTH + 15, TOP, list(color_of.items()))]
     return inline(svg(LEFT + WIDTH + 180, TOP + HEIGHT + 50, elements))
 
@@ -73,13 +74,10 @@ def workers_picture(journal, tenants, number):
     return inline(timeline([journal], words, *worst_time(journal, number)))
 
 
-def pairs_picture(journal, verdict):
-    """For whom each victim waited, as parts of its waiting."""
+def pairs_picture(journal, verdict, shown):
+    """For whom each victim waited, as parts of its waiting; these tenants have colors."""
     victims, names = verdict.victims[:MOST_ROWS], journal.tenants
-    sums = {}
-    for (tenant, runs), held in verdict.pairs.items():
-        sums[runs] = sums.get(runs, 0) + (held if tenant in victims else 0)
-    color_of = ColorByName([names[it] for it in sorted(sums, key=lambda it: -sums[it])[:MOST_COLORS]])
+    color_of = ColorByName([names[it] for it in shown])
     elements = [label(LEFT, TOP - 8, "for whom each victim waited, as parts of its waiting")]
     for place, tenant in enumerate(victims):
         top, left = TOP + place * (ROW + SPACE), float(LEFT)
@@ -93,7 +91,7 @@ def pairs_picture(journal, verdict):
             size = {"width": width, "height": ROW}
             elements.append(element("rect", title=title, x=left, y=top, **size, fill=color_of[names[runs]]))
             left += width
-    others = [("others", OTHERS)] if len(sums) > MOST_COLORS else []
+    others = [("others", OTHERS)] if len(names) > len(shown) else []
     elements += legend(LEFT + WIDTH + 15, TOP, [*color_of.items(), *others])
-    height = max(len(victims) * (ROW + SPACE), legend_height(MOST_COLORS + 1)) + TOP + 10
+    height = max(len(victims) * (ROW + SPACE), legend_height(len(shown) + 1)) + TOP + 10
     return inline(svg(LEFT + WIDTH + 180, height, elements))
