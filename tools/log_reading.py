@@ -91,7 +91,8 @@ class Reader:
             row = Row(time, before, texts[1], self.kind(texts[2]), declared, took, name, number)
             self.rows.append(row)
             self.seen.add(row, took if given.cost else microseconds(texts[3], given.unit), whole)
-            self.seen.add_zone(texts[0])
+            if texts[0][-1:].isalpha():
+                self.seen.add_zone(texts[0])
             if len(self.rows) > MOST_REQUESTS:
                 raise too_many(name, number)
 

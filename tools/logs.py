@@ -12,7 +12,7 @@ import zlib
 
 import log_formats
 import log_servers
-from log_formats import PART, Passed, words_of
+from log_formats import PART, Passed, dict_of, words_of
 from log_times import Unread
 from tool import Fault, Progress, printable
 
@@ -86,11 +86,12 @@ def values_of(names, path):
 
     def values(columns):
         try:
-            found = [get(columns) for get in gets] if has_paths else pick(columns)
+            found = [get(columns) for get in gets] if has_paths and isinstance(columns, dict) else pick(columns)
             if set(map(type, found)) == TEXTS:
                 return order(found)
-        except KeyError:
+        except LookupError:
             pass
+        columns = dict_of(columns)
         return [value(columns, name, path) for name in names]
 
     return values
