@@ -13,8 +13,8 @@ from queue_journal import takes_of
 ONE_QUEUE = "one_queue"
 TAKES = re.compile(rb"^take \d+ (\d+) \d+ (\d+)", re.MULTILINE)
 
-# A change: the policy, or one_queue, whose estimator is None; the workers; the tenants' other weights, and the limits of
-# tenants, as pairs of a name and a number; and the part of the reserve, or None.
+# A change: the policy, or one_queue, whose estimator is None; the workers; other weights and limits of tenants, as pairs
+# of a name and a number; and the part of the reserve, or None.
 Change = collections.namedtuple("Change", "policy estimate workers weights limits reserve", defaults=((), (), None))
 
 # What a change makes of a trace: the wait of each request, in the order of the trace, and when the last was done.

@@ -54,7 +54,7 @@ def waiting_time(journal):
 
 
 def lengths_of(journal):
-    """The time for which each request runs, as far as it is known; of one that was not taken that of the mean request."""
+    """The time for which each request runs, as far as it is known; for one that was not taken that of the mean one."""
     found = []
     for taken, done in zip(journal.taken, journal.done):
         found.append(None if taken is None else (journal.now if done is None else done) - taken)
@@ -64,8 +64,8 @@ def lengths_of(journal):
 
 
 class Slots:
-    """The slots of a journal: `found` has of each the tenants' times by tenant, and whether nobody waited at some moment
-    of it. Its clock goes only while some request waits."""
+    """The slots of a journal: `found` has of each the tenants' times by tenant, and whether nobody waited at some
+    moment of it. Its clock goes only while some request waits."""
 
     def __init__(self, journal):
         self.count, self.slot = len(journal.tenants), slot_of(journal)
@@ -160,7 +160,7 @@ def dues(capacity, wanted, weights):
 
 
 class Ideal:
-    """The ideal server: `lags` has how much more work of each tenant it has done since somebody waits, by the tenant."""
+    """The ideal server: `lags` has by tenant how much more of its work it has done since somebody waits."""
 
     def __init__(self, weights):
         self.weights, self.lags = weights, {}

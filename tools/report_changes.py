@@ -11,13 +11,13 @@ from tool import counted, percentile, processors
 MOST_WORKERS = 64
 # By how much the weight of culprits is less, and the greatest weight.
 LIGHTER, MOST_WEIGHT = 4, 1000
-WITH = f"2dfq+ is simulated without the reserve that a pool keeps by its patience, and with a reserve of {reserve.PATIENCE}"
+WITHOUT = "2dfq+ is simulated without the reserve that a pool keeps by its patience"
 QUEUE = Change(ONE_QUEUE, None, 1)
 PLUS = Change("2dfq+", "pessimistic", 1)
 
 
 def lighter(weights, culprits):
-    """Weights by which culprits have a quarter of what they have now, beside the others, as pairs of names and weights."""
+    """Weights, as pairs with names, by which culprits have a quarter of what they have now, beside the others."""
     if max(weights.values()) * LIGHTER <= MOST_WEIGHT:
         return tuple((name, weight if name in culprits else LIGHTER * weight) for name, weight in weights.items())
     return tuple((name, max(1, weights[name] // LIGHTER)) for name in culprits)
@@ -26,8 +26,8 @@ def lighter(weights, culprits):
 def told_reserve(given):
     """What is said of the reserve."""
     if given.replay:
-        return f"{WITH}."
-    return f"2dfq+ is simulated without the reserve that a pool keeps by its patience, as {reserve.why_not()}."
+        return f"{WITHOUT}, and with a reserve of {reserve.PATIENCE}."
+    return f"{WITHOUT}, as {reserve.why_not()}."
 
 
 def changes_of(given, trace, culprits):

@@ -1,4 +1,4 @@
-"""The pictures of `report`: waits over time, whose requests the workers ran at the worst, and for whom victims waited."""
+"""The pictures of `report`: waits over time, the workers at the worst, and for whom victims waited."""
 
 import types
 
