@@ -9,11 +9,16 @@ from log_times import Unread
 # A text in quotes, without these.
 QUOTED = r'[^"\\]*(?:\\.[^"\\]*)*'
 # The parts of a line: ADDRESS IDENTITY USER [TIME] "METHOD PATH PROTOCOL" STATUS SIZE "REFERER" "AGENT", and more.
-ACCESS = re.compile(
+BEGIN = (
     r"(?P<address>\S+) (?P<identity>\S+) (?P<user>\S+|.+?) \[(?P<time>[^\]]+)\] "
     r'"(?P<method>\S+) (?P<path>\S+)(?: [^" ]*)?" (?P<status>\d{3}) (?P<size>\d+|-)'
-    rf'(?: "(?P<referer>{QUOTED})" "(?P<agent>{QUOTED})")?(?P<more>(?: .*)?)'
+    rf'(?: "(?P<referer>{QUOTED})" "(?P<agent>{QUOTED})")?'
 )
+ACCESS = re.compile(rf"{BEGIN}(?P<more>(?: .*)?)")
+# Lines with one number or two behind, as most have: their match has the columns, and is read faster than a line of the
+# general form.
+ONE_NUMBER = re.compile(rf"{BEGIN}(?P<more> (?P<duration>[\d.]+))")
+TWO_NUMBERS = re.compile(rf"{BEGIN}(?P<more> (?P<duration>[\d.]+) (?P<upstream>\d+\.\d+))")
 # A word behind the agent, which may be quoted and have a name, as rt=0.125.
 WORD = re.compile(rf'(?:(?P<name>[A-Za-z_]\w*)=)?(?:"(?P<quoted>{QUOTED})"|(?P<bare>\S+))')
 # A last word that is not quoted and has no name.
@@ -43,11 +48,19 @@ def access(line):
 
 def timed(line):
     """The columns of a web server's line with a duration behind."""
+    plain = ONE_NUMBER.fullmatch(line)
+    if plain:
+        return plain
     columns = access(line)
     if columns:
         bare = BARE.fullmatch(columns["more"])
         columns["duration"] = bare[1] if bare else words_of(columns).get("duration")
     return columns if columns and columns["duration"] else None
+
+
+def dict_of(columns):
+    """Columns by their names, of a match too."""
+    return columns.groupdict() if isinstance(columns, re.Match) else columns
 
 
 def words_of(columns):
@@ -63,6 +76,9 @@ def words_of(columns):
 
 def upstream(line):
     """The columns of a web server's line with two durations behind, the second that of another server."""
+    plain = TWO_NUMBERS.fullmatch(line)
+    if plain:
+        return plain
     columns = access(line)
     times = columns and UPSTREAM.fullmatch(columns["more"].strip())
     if not times:
@@ -80,7 +96,7 @@ def vhost(line):
     """A web server's line with the host and port before it."""
     host, _, rest = line.partition(" ")
     columns = timed(rest)
-    return columns and {**columns, "host": host.rpartition(":")[0] or host}
+    return columns and {**dict_of(columns), "host": host.rpartition(":")[0] or host}
 
 
 def envoy(line):
@@ -89,15 +105,17 @@ def envoy(line):
 
 
 DECODER = json.JSONDecoder(parse_float=str, parse_int=str, parse_constant=str)
+SPACES = " \t\r\n"
 
 
 def json_object(line):
     """The members of an object; its numbers stay as they are written."""
+    line = line.strip(SPACES)
     try:
-        found = DECODER.decode(line)
-    except (ValueError, RecursionError):
+        found, end = DECODER.scan_once(line, 0)
+    except (ValueError, RecursionError, StopIteration):
         return None
-    return found if isinstance(found, dict) else None
+    return found if end == len(line) and isinstance(found, dict) else None
 
 
 class Format:

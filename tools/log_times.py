@@ -7,6 +7,8 @@ import functools
 import re
 
 UNITS = {"s": 1_000_000, "ms": 1_000, "us": 1}
+# The places behind the point of a number of whole microseconds, and the most digits of a number that is read at once.
+PLACES, MOST_DIGITS = {"s": 6, "ms": 3, "us": 0}, 18
 CALLED = {"s": "seconds", "ms": "milliseconds", "us": "microseconds"}
 EPOCH = datetime.datetime(1970, 1, 1, tzinfo=datetime.timezone.utc)
 MICROSECOND = datetime.timedelta(microseconds=1)
@@ -30,6 +32,10 @@ class Unread(Exception):
 @functools.lru_cache(maxsize=1 << 16)
 def microseconds(text, unit):
     """A number with its unit, to the nearest microsecond."""
+    whole, _, fraction = text.partition(".")
+    # (most numbers are of whole microseconds, and a Decimal takes long)
+    if len(text) <= MOST_DIGITS and len(fraction) <= PLACES[unit] and (whole + fraction).isdecimal():
+        return int(whole + fraction.ljust(PLACES[unit], "0"))
     try:
         number = decimal.Decimal(text)
     except decimal.InvalidOperation:

@@ -12,16 +12,18 @@ import zlib
 
 import log_formats
 import log_servers
-from log_formats import PART, Passed, words_of
+from log_formats import PART, Passed, dict_of, words_of
 from log_times import Unread
 from tool import Fault, Progress, printable
 
-# The greatest part of a line that is shown, and the number of letters after which progress is counted.
-MOST_SHOWN, MOST_UNTOLD = 160, 100_000
+# The greatest part of a line that is shown, the number of letters after which progress is counted, and the greatest
+# number of bytes by which a trace is known.
+MOST_SHOWN, MOST_UNTOLD, MOST_PEEKED = 160, 100_000, 4096
 FORMATS = {**log_formats.FORMATS, **log_servers.FORMATS}
 # What begins the texts of this program, and what reads them.
+TRACE = re.compile(r"tenant,[^,]*,\d+$|request,\d+,\d+,")
 OURS = {
-    r"tenant,[^,]*,\d+$|request,\d+,\d+,": "a trace: give it to ./twodfq run or tools/one_queue",
+    TRACE.pattern: "a trace: give it to ./twodfq run or tools/one_queue",
     r"journal [1-9]$": "a journal: give it to tools/turnaround",
     r"(script|report) [1-9]$": "no log, but a text of this program: docs/FORMATS.md tells what reads it",
 }
@@ -59,17 +61,37 @@ def value(columns, name, path):
     return found
 
 
+def member_of(name):
+    """The function that gives a column by its name, as `member` does, and None where it is not there."""
+    first, _, rest = name.partition(".")
+    inner = member_of(rest) if rest else None
+
+    def get(columns):
+        found = columns.get(name)
+        if found is None and inner:
+            outer = columns.get(first)
+            return inner(outer) if isinstance(outer, dict) else None
+        return found
+
+    return get
+
+
 def values_of(names, path):
     """The function that gives the texts of these columns of a line, two and more."""
-    pick = operator.itemgetter(*names)
+    single = list(dict.fromkeys(names))
+    # (with the first again, since one alone would give no tuple)
+    pick = operator.itemgetter(*single, single[0])
+    gets, order = [member_of(it) for it in single], operator.itemgetter(*map(single.index, names))
+    has_paths = any("." in it for it in single)
 
     def values(columns):
         try:
-            found = pick(columns)
+            found = [get(columns) for get in gets] if has_paths and isinstance(columns, dict) else pick(columns)
             if set(map(type, found)) == TEXTS:
-                return found
-        except KeyError:
+                return order(found)
+        except LookupError:
             pass
+        columns = dict_of(columns)
         return [value(columns, name, path) for name in names]
 
     return values
@@ -92,13 +114,11 @@ def opened_log(name):
 
 def told_lines(file, progress):
     """The lines of a file, whose progress is counted now and then."""
-    count = 0
-    for line in file:
-        count += len(line)
-        if count > MOST_UNTOLD:
-            progress.add(count)
-            count = 0
-        yield line
+    lines = file.readlines(MOST_UNTOLD)
+    while lines:
+        progress.add(sum(map(len, lines)))
+        yield from lines
+        lines = file.readlines(MOST_UNTOLD)
 
 
 def rows_of_file(rows, lines, needed, name):
@@ -130,6 +150,17 @@ def rows_of(file, format_name, needed, name, progress):
         yield number, line, columns
 
 
+def is_trace(name):
+    """Whether a file, or standard input for `-`, begins as a trace does."""
+    file = sys.stdin.buffer if name == "-" else open(name, "rb")
+    try:
+        begin = file.peek(MOST_PEEKED)[:MOST_PEEKED].lstrip(b"\xef\xbb\xbf").lstrip().partition(b"\n")[0]
+    finally:
+        if name != "-":
+            file.close()
+    return bool(TRACE.match(begin.decode(errors="replace").rstrip("\r")))
+
+
 def expect_log(line, name):
     """Refuses the first line of a text of this program."""
     for shape, what in OURS.items():
@@ -139,10 +170,10 @@ def expect_log(line, name):
 
 def known(lines, name):
     """The lines of a log."""
-    for line in itertools.islice(lines, 1):
+    first = list(itertools.islice(lines, 1))
+    for line in first:
         expect_log(line, name)
-        yield line
-    yield from lines
+    return itertools.chain(first, lines)
 
 
 def shown(line):

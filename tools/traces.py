@@ -113,11 +113,15 @@ def trace(came, name, given):
     too_many = f"{name}: more than {MOST_KINDS} kinds: take less of the paths, or another column"
     kinds = Names("kind", MOST_KINDS, too_many)
     first, mean, requests = came[0][0], means(row for _, row in came) if given.mean else None, []
-    for moment, row in came:
-        tenant, kind = tenants.add(row.user), kinds.add(row.kind)
-        names = f"{tenants.names[tenant]},{kinds.names[kind]}"
-        declared = mean[row.kind] if mean else row.declared
-        requests.append(f"request,{moment - first},{tenant % given.submitters},{names},{declared},{row.cost}\n")
+    # (what stands between the moment and the costs, by user and kind)
+    middles = {}
+    for moment, (_, _, user, kind, declared, cost, _, _) in came:
+        middle = middles.get((user, kind))
+        if middle is None:
+            tenant = tenants.add(user)
+            names = f"{tenants.names[tenant]},{kinds.names[kinds.add(kind)]}"
+            middle = middles[user, kind] = f"{tenant % given.submitters},{names}"
+        requests.append(f"request,{moment - first},{middle},{mean[kind] if mean else declared},{cost}\n")
     if len(tenants.names) * len(kinds.names) > MOST_PAIRS:
         raise Fault(f"{name}: more than {MOST_PAIRS} pairs of a tenant and a kind")
     for user in given.weight:

@@ -1,7 +1,7 @@
-"""Writes a trace whose culprit is known: stories.py STORY SEED, for the tests of verdicts.
+"""Writes a trace whose culprit is known: stories.py STORY SEED [BUSY], for the tests of verdicts.
 
-Ten tenants t0 to t9 send requests for a minute, and keep half of eight workers busy, so that nobody waits for long.
-What a story has besides:
+Ten tenants t0 to t9 send requests for a minute, and keep half of eight workers busy, so that nobody waits for long; or
+they keep BUSY of 100 busy. What a story has besides:
 
     calm        nothing
     costly      big sends four requests of 4 seconds each 3 seconds
@@ -30,12 +30,12 @@ def arrivals(draw, rate, begin=0, end=WHOLE):
         yield moment
 
 
-def usual(draw, story):
-    """The requests of the ten tenants."""
+def usual(draw, story, busy):
+    """The requests of the ten tenants, which keep this part of the workers busy."""
     grown = 2.5 if story in ("growth", "uneven") else 1
     for tenant in range(TENANTS):
         size = 0.5 + tenant / 10 if story == "uneven" else 1
-        for moment in arrivals(draw, WORKERS / 2 / TENANTS / MEAN * SECOND * grown * size):
+        for moment in arrivals(draw, WORKERS * busy / TENANTS / MEAN * SECOND * grown * size):
             slow = 8 if story == "slow" and 20 <= moment // SECOND < 35 else 1
             yield moment, f"t{tenant}", max(1, round(draw.expovariate(1 / MEAN) * slow))
 
@@ -54,8 +54,8 @@ def others(draw, story):
 
 
 def main():
-    story, draw = sys.argv[1], random.Random(int(sys.argv[2]))
-    requests = sorted([*usual(draw, story), *others(draw, story)])
+    story, draw, busy = sys.argv[1], random.Random(int(sys.argv[2])), [*map(int, sys.argv[3:]), 50][0] / 100
+    requests = sorted([*usual(draw, story, busy), *others(draw, story)])
     names = dict.fromkeys(name for _, name, _ in requests)
     print("".join(f"tenant,{name},1\n" for name in names), end="")
     print("".join(f"request,{moment},0,{name},get,{cost},{cost}\n" for moment, name, cost in requests), end="")
