@@ -6,21 +6,21 @@ use Rattle.request_limits.specs.Next.{NoneMayGo, IsNextToGo}
 
 -- ---- cells
 
--- the second slot and kind are not the first
-abbrev pub IsOtherCell : ℕ → ℕ → ℕ → ℕ → Type 0
-IsOtherCell slot kind s k = (s ≢ slot) ⊎ (k ≢ kind)
+-- there are such a slot s and such a kind k, and they are not the first two
+abbrev pub HasOtherCell : LimitsView → ℕ → ℕ → ℕ → ℕ → Type 0
+HasOtherCell v slot kind s k = HasCell v s k × ((s ≢ slot) ⊎ (k ≢ kind))
 
 -- another count of a slot and kind changes that of no other, and the sum of its slot alike
 pub record SentChangesAlone (v : LimitsView) (slot kind n : ℕ) : Type 0 where
   pub here : sent_in (with_sent v slot kind n) slot kind ≡ n
-  pub there : (s k : ℕ) → HasCell v s k → IsOtherCell slot kind s k → sent_in (with_sent v slot kind n) s k ≡ sent_in v s k
+  pub there : (s k : ℕ) → HasOtherCell v slot kind s k → sent_in (with_sent v slot kind n) s k ≡ sent_in v s k
   pub sum_here : sent_of (with_sent v slot kind n) slot + sent_in v slot kind ≡ sent_of v slot + n
   pub sum_there : (s : ℕ) → s ≢ slot → sent_of (with_sent v slot kind n) s ≡ sent_of v s
 
 -- other held requests of a slot and kind change those of no other
 pub record HeldChangesAlone (v : LimitsView) (slot kind : ℕ) (list : List Held) : Type 0 where
   pub here : held_in (with_held v slot kind list) slot kind ≡ list
-  pub there : (s k : ℕ) → HasCell v s k → IsOtherCell slot kind s k → held_in (with_held v slot kind list) s k ≡ held_in v s k
+  pub there : (s k : ℕ) → HasOtherCell v slot kind s k → held_in (with_held v slot kind list) s k ≡ held_in v s k
 
 abbrev pub CellsAreApart : Type 0
 CellsAreApart = (v : LimitsView) (slot kind : ℕ) → HasCells v → HasCell v slot kind

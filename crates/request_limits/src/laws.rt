@@ -12,8 +12,8 @@ pub fn passing_keeps_limits()
     ensures { PassingKeepsLimits }
 {}
 
-/// If the held requests of each slot and kind are in the order of their tickets, the next to go is the oldest of all held
-/// ones of its slot that pass.
+/// If the held requests of each slot and kind are in the order of their tickets, the next to go is the oldest of all
+/// held ones of its slot that pass.
 pub fn next_is_oldest()
     ensures { NextIsOldest }
 {}
@@ -23,8 +23,8 @@ pub fn none_is_left()
     ensures { NoneIsLeft }
 {}
 
-/// The held requests of each slot and kind stay in the order of their tickets, if each that is held has a greater ticket
-/// than those of its slot and kind, and whichever is held no more.
+/// The held requests of each slot and kind stay in the order of their tickets, if each that is held has a greater
+/// ticket than those of its slot and kind, and whichever is held no more.
 pub fn order_is_kept()
     ensures { OrderIsKept }
 {}

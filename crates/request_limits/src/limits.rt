@@ -38,8 +38,9 @@ impl Model for RequestLimits {
 }
 
 impl RequestLimits {
-    /// Nothing is forwarded or held. There are up to 65,536 slots, each with this limit, and up to 64 kinds with theirs,
-    /// but at most 1,048,576 cells. A limit of 0 is none. At most `room` requests may be held. All memory is taken here.
+    /// Nothing is forwarded or held. There are up to 65,536 slots, each with this limit, and up to 64 kinds with
+    /// theirs, but at most 1,048,576 cells. A limit of 0 is none. At most `room` requests may be held. All memory is
+    /// taken here.
     pub fn open(
         alloc: Global,
         slots: u32,
@@ -106,9 +107,9 @@ impl RequestLimits {
         Some(held_of(item))
     }
 
-    /// The held request of a slot that goes next, with its kind: of the oldest ones of all kinds, of those that pass, the
-    /// one of the least ticket, and of equal tickets that of the least kind. If the held ones of each slot and kind are
-    /// in the order of their tickets, it is the oldest of all that pass.
+    /// The held request of a slot that goes next, with its kind: of the oldest of each kind, if it passes, the one of
+    /// the least ticket, and of equal tickets that of the least kind. If the held ones of each slot and kind are in the
+    /// order of their tickets, it is the oldest of all that pass.
     pub fn next_to_go(&self, slot: u32) -> Option<(u32, Held)>
         requires { slot < slots self.now }
         ensures { MatchOption result (NoneMayGo self.now slot) (λ n. IsNextToGo self.now slot n.0 n.1) }

@@ -68,8 +68,8 @@ fn held(ticket: u64, place: u32) -> Held {
     Held { ticket, place }
 }
 
-// A tenant's limit counts all kinds, a kind's limit those of one tenant. Lowered below what is forwarded it lets none pass
-// until enough have ended; 0 is no limit.
+// A tenant's limit counts all kinds, a kind's limit those of one tenant. Lowered below what is forwarded it lets none
+// pass until enough have ended; 0 is no limit.
 #[test]
 fn both_limits_hold(rt: HostRuntime) -> Result<(), Fail> {
     let mut small = Small::open(&rt)?;
