@@ -69,11 +69,28 @@ def text_of(trace):
     return "".join(lines).encode(errors="surrogateescape")
 
 
+class Texts:
+    """The texts of traces; that of the trace that was asked for last is kept."""
+
+    def __init__(self):
+        self.last = None, b""
+
+    def of(self, trace):
+        last, text = self.last
+        if last is not trace:
+            text = text_of(trace)
+            self.last = trace, text
+        return text
+
+
+TEXTS = Texts()
+
+
 def takes_by_program(change, trace, given, name):
     """The moment of each request's take by the program, and the last moment."""
     words = [f"--{it}={getattr(given, it)}" for it in ("initial", "refresh")]
     words += [f"--workers={change.workers}", f"--policy={change.policy}", f"--estimate={change.estimate}"]
-    text = answer(given.program, ["run", *words, "--print=journal"], name, input=text_of(trace))
+    text = answer(given.program, ["run", *words, "--print=journal"], name, input=TEXTS.of(trace))
     found = [0] * len(trace.requests)
     for moment, number in TAKES.findall(text):
         found[int(number)] = int(moment)
