@@ -6,9 +6,7 @@ use Rattle.service_model.specs.declared.limits.TheConstants.{MOST_TICKETS}
 use Rattle.waiting_room.specs.declared.refusal.Refusal.{Refusal}
 use Rattle.waiting_room.specs.Room.{own_places, waiting_of, refusal}
 use Rattle.waiting_room.proofs.Always as always
-use Rattle.fq_model.specs.declared.event.Cause.TheVariants as cause
 use Rattle.fq_model.specs.declared.event.Reply.{Reply}
-use Rattle.fq_model.specs.declared.event.Reply.TheVariants as answer
 use Rattle.fq_model.specs.Rows.{first_true}
 use Rattle.service_model.specs.declared.call.ServiceCall.{ServiceCall}
 use Rattle.service_model.specs.declared.call.ServiceCall.TheVariants as call
@@ -28,6 +26,7 @@ use Rattle.service_model.specs.Answers.{coming, AnswersAt}
 use Rattle.service_model.specs.Runs.{Step, IsRun, moment_of_step}
 use Rattle.service_model.specs.Laws.{IsRoomRefusal, IsSubmitFor, OwnPlacesAreKept}
 use Rattle.service_laws.proofs.Lists.{either, not_both, some_same}
+use Rattle.service_laws.proofs.Outcomes.{forwarded_or_full}
 use Rattle.service_laws.proofs.Moves.{first_of_both}
 use Rattle.service_laws.proofs.Rooms.{HasRoom, size_is, slot_is_there}
 use Rattle.service_laws.proofs.RoomLaws.{named_fits, has_room}
@@ -70,26 +69,10 @@ cause_is_else false false false false false false false false slot kind declared
 
 forwarded_is_else : (r : Reply) (v : ServiceView) (m : ℕ) (q : Admitted) (o : ServiceOutcome) (w : ServiceView)
     → IsForwardedBy r v m q o w → IsElse o
-forwarded_is_else (answer.Request request) v m q o w x = subst IsElse (sym x.0) tt
-forwarded_is_else (answer.Refused (cause.Full entries)) v m q o w x = subst IsElse (sym x.0) tt
-forwarded_is_else (answer.Refused cause.Closed) v m q o w x = absurd x
-forwarded_is_else (answer.Refused (cause.Tenant t)) v m q o w x = absurd x
-forwarded_is_else (answer.Refused (cause.Kind n)) v m q o w x = absurd x
-forwarded_is_else (answer.Refused (cause.Cost n)) v m q o w x = absurd x
-forwarded_is_else (answer.Refused (cause.Slots n)) v m q o w x = absurd x
-forwarded_is_else (answer.Refused (cause.Worker n)) v m q o w x = absurd x
-forwarded_is_else (answer.Refused (cause.Busy n)) v m q o w x = absurd x
-forwarded_is_else (answer.Refused cause.NotRunning) v m q o w x = absurd x
-forwarded_is_else (answer.Refused (cause.Falling last given)) v m q o w x = absurd x
-forwarded_is_else (answer.Refused (cause.Weight n)) v m q o w x = absurd x
-forwarded_is_else (answer.Refused (cause.Workers n)) v m q o w x = absurd x
-forwarded_is_else (answer.Refused (cause.NotWaiting n)) v m q o w x = absurd x
-forwarded_is_else (answer.Run request estimate label) v m q o w x = absurd x
-forwarded_is_else answer.Accepted v m q o w x = absurd x
-forwarded_is_else answer.Idle v m q o w x = absurd x
-forwarded_is_else answer.Drained v m q o w x = absurd x
-forwarded_is_else (answer.Retired n) v m q o w x = absurd x
-forwarded_is_else (answer.Withdrawn label) v m q o w x = absurd x
+forwarded_is_else r v m q o w x = elim (forwarded_or_full r v m q o w x) [
+  | inl y ↦ subst IsElse (sym y.1.0) tt
+  | inr y ↦ subst IsElse (sym y.0) tt
+]
 
 submitted_is_else : (c : ServiceConfig) (m : ℕ) (v : ServiceView) (q : Admitted) (o : ServiceOutcome) (w : ServiceView)
     → AnswersSubmit c m v q o w → IsElse o

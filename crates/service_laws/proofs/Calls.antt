@@ -8,7 +8,6 @@ use Rattle.waiting_room.specs.declared.refusal.Refusal.TheVariants as room
 use Rattle.waiting_room.specs.Room.{refusal}
 use Rattle.fq_model.specs.declared.event.Call.{Call}
 use Rattle.fq_model.specs.declared.event.Call.TheVariants as call_of
-use Rattle.fq_model.specs.declared.event.Cause.TheVariants as cause
 use Rattle.fq_model.specs.declared.event.Reply.{Reply}
 use Rattle.fq_model.specs.declared.event.Reply.TheVariants as answer
 use Rattle.fq_model.specs.History.{weight_at}
@@ -36,6 +35,7 @@ use Rattle.service_model.specs.Deadlines.{is_late as late_at, has_late, Withdraw
 use Rattle.service_model.specs.Granting.{may_grant, Grants, AsksWorkers, Rests, AnswersNext, with_declining, is_visitor}
 use Rattle.service_model.specs.Answers.{coming, AnswersAt, Answers, moment_of_call}
 use Rattle.service_laws.proofs.Lists.{either}
+use Rattle.service_laws.proofs.Outcomes.{forwarded_or_full, changed_or_full}
 use Rattle.service_laws.proofs.Refreshed.{SameRequests, requests_stay, made_now, made_at, reported, refreshed}
 use Rattle.service_laws.proofs.Rolled.{IsBlind, with_room_slots, with_room_count}
 use Rattle.service_laws.proofs.Moves.{Becomes, IsLetGo, passes_after, Stays, Admits, IsClosed, making, end_stays, first_of_both, equal, onto, with_room, turned, releases, withdraws, cancels}
@@ -148,26 +148,10 @@ module _ (c : ServiceConfig) (R : ServiceView → ServiceView → Type 0) (k : I
 
   by_reply : (r : Reply) (v : ServiceView) (m : ℕ) (q : Admitted) (o : ServiceOutcome) (w : ServiceView)
       → IsLetIn c v q → passes c v q.slot q.kind ≡ true → IsForwardedBy r v m q o w → R v w
-  by_reply (answer.Request request) v m q o w known let_go x = is_admitted v m q (Forwarded request) o w known refl let_go x
-  by_reply (answer.Refused (cause.Full entries)) v m q o w known let_go x = equal c R k v w x.1
-  by_reply (answer.Refused cause.Closed) v m q o w known let_go x = absurd x
-  by_reply (answer.Refused (cause.Tenant t)) v m q o w known let_go x = absurd x
-  by_reply (answer.Refused (cause.Kind n)) v m q o w known let_go x = absurd x
-  by_reply (answer.Refused (cause.Cost n)) v m q o w known let_go x = absurd x
-  by_reply (answer.Refused (cause.Slots n)) v m q o w known let_go x = absurd x
-  by_reply (answer.Refused (cause.Worker n)) v m q o w known let_go x = absurd x
-  by_reply (answer.Refused (cause.Busy n)) v m q o w known let_go x = absurd x
-  by_reply (answer.Refused cause.NotRunning) v m q o w known let_go x = absurd x
-  by_reply (answer.Refused (cause.Falling last given)) v m q o w known let_go x = absurd x
-  by_reply (answer.Refused (cause.Weight n)) v m q o w known let_go x = absurd x
-  by_reply (answer.Refused (cause.Workers n)) v m q o w known let_go x = absurd x
-  by_reply (answer.Refused (cause.NotWaiting n)) v m q o w known let_go x = absurd x
-  by_reply (answer.Run request estimate label) v m q o w known let_go x = absurd x
-  by_reply answer.Accepted v m q o w known let_go x = absurd x
-  by_reply answer.Idle v m q o w known let_go x = absurd x
-  by_reply answer.Drained v m q o w known let_go x = absurd x
-  by_reply (answer.Retired n) v m q o w known let_go x = absurd x
-  by_reply (answer.Withdrawn label) v m q o w known let_go x = absurd x
+  by_reply r v m q o w known let_go x = elim (forwarded_or_full r v m q o w x) [
+    | inl y ↦ is_admitted v m q (Forwarded y.0) o w known refl let_go y.1
+    | inr y ↦ equal c R k v w y.1
+  ]
 
   submits : (m : ℕ) (v : ServiceView) (q : Admitted) (o : ServiceOutcome) (w : ServiceView) → IsLetIn c v q
       → AnswersSubmit c m v q o w → R v w
@@ -191,26 +175,10 @@ module _ (c : ServiceConfig) (R : ServiceView → ServiceView → Type 0) (k : I
   by_change : (r : Reply) (wanted : ServiceOutcome) (change : ServiceView → ServiceView) (v : ServiceView)
       (o : ServiceOutcome) (w : ServiceView) → ((u : ServiceView) → Stays u (change u))
       → IsChangedBy r wanted change v o w → R v w
-  by_change answer.Accepted wanted change v o w stay x = onto c R k v (change v) w (k.stays v (change v) (stay v)) x.1
-  by_change (answer.Refused (cause.Full entries)) wanted change v o w stay x = equal c R k v w x.1
-  by_change (answer.Refused cause.Closed) wanted change v o w stay x = absurd x
-  by_change (answer.Refused (cause.Tenant t)) wanted change v o w stay x = absurd x
-  by_change (answer.Refused (cause.Kind n)) wanted change v o w stay x = absurd x
-  by_change (answer.Refused (cause.Cost n)) wanted change v o w stay x = absurd x
-  by_change (answer.Refused (cause.Slots n)) wanted change v o w stay x = absurd x
-  by_change (answer.Refused (cause.Worker n)) wanted change v o w stay x = absurd x
-  by_change (answer.Refused (cause.Busy n)) wanted change v o w stay x = absurd x
-  by_change (answer.Refused cause.NotRunning) wanted change v o w stay x = absurd x
-  by_change (answer.Refused (cause.Falling last given)) wanted change v o w stay x = absurd x
-  by_change (answer.Refused (cause.Weight n)) wanted change v o w stay x = absurd x
-  by_change (answer.Refused (cause.Workers n)) wanted change v o w stay x = absurd x
-  by_change (answer.Refused (cause.NotWaiting n)) wanted change v o w stay x = absurd x
-  by_change (answer.Request request) wanted change v o w stay x = absurd x
-  by_change (answer.Run request estimate label) wanted change v o w stay x = absurd x
-  by_change answer.Idle wanted change v o w stay x = absurd x
-  by_change answer.Drained wanted change v o w stay x = absurd x
-  by_change (answer.Retired n) wanted change v o w stay x = absurd x
-  by_change (answer.Withdrawn label) wanted change v o w stay x = absurd x
+  by_change r wanted change v o w stay x = elim (changed_or_full r wanted change v o w x) [
+    | inl y ↦ onto c R k v (change v) w (k.stays v (change v) (stay v)) y.1
+    | inr y ↦ equal c R k v w y.1
+  ]
 
   changes : (m : ℕ) (v : ServiceView) (asked : Call) (wanted : ServiceOutcome) (change : ServiceView → ServiceView)
       (o : ServiceOutcome) (w : ServiceView) → ((u : ServiceView) → Stays u (change u))

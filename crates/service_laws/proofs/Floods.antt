@@ -1,11 +1,9 @@
 -- A flood of one tenant leaves half of the shared places to others.
-use Rattle.std.proofs.Common.{ℕ, ◌≡◌, ◌∙◌, ◌+◌, ◌<◌, ◌≤◌, true, Option, Some, None, refl, sym, ap, subst, length, arith}
+use Rattle.std.proofs.Common.{ℕ, ◌≡◌, ◌∙◌, ◌+◌, ◌<◌, ◌≤◌, true, Option, Some, None, refl, sym, ap, subst, length, arith, inl, inr}
 use Rattle.std.specs.List.{count_by}
 use Rattle.waiting_room.specs.Room.{own_places, waiting_of, refusal, entered, shared_of, shared_free}
 use Rattle.waiting_room.proofs.Always as always
-use Rattle.fq_model.specs.declared.event.Cause.TheVariants as cause
 use Rattle.fq_model.specs.declared.event.Reply.{Reply}
-use Rattle.fq_model.specs.declared.event.Reply.TheVariants as answer
 use Rattle.service_model.specs.declared.call.ServiceCall.{ServiceCall}
 use Rattle.service_model.specs.declared.call.ServiceCall.TheVariants as call
 use Rattle.service_model.specs.declared.config.ServiceConfig.{ServiceConfig}
@@ -25,6 +23,7 @@ use Rattle.service_model.specs.Answers.{coming, AnswersAt}
 use Rattle.service_model.specs.Runs.{moment_of_step}
 use Rattle.service_model.specs.Laws.{IsSubmitFor, FloodsAreHalved}
 use Rattle.service_laws.proofs.Lists.{either, some_same}
+use Rattle.service_laws.proofs.Outcomes.{forwarded_or_full}
 use Rattle.service_laws.proofs.Refreshed.{SameRequests, made_now}
 use Rattle.service_laws.proofs.Rolled.{with_room_slots}
 use Rattle.service_laws.proofs.Moves.{IsLetGo, passes_after}
@@ -57,26 +56,10 @@ module _ (c : ServiceConfig) (sound : service_fault c ≡ None) where
       (ticket : IsTicket o) where
     by_reply : (r : Reply) (u : ServiceView) (m : ℕ) (q : Admitted) → length u.slots ≡ length c.scheduler.weights
         → IsLetIn c u q → passes c u q.slot q.kind ≡ true → IsForwardedBy r u m q o w → room_of c w ≡ entered (room_of c u) q.slot
-    by_reply (answer.Request request) u m q long known let_go x = by_admission u m q (Forwarded request) o w long known refl let_go x
-    by_reply (answer.Refused (cause.Full entries)) u m q long known let_go x = absurd (subst IsTicket x.0 ticket)
-    by_reply (answer.Refused cause.Closed) u m q long known let_go x = absurd x
-    by_reply (answer.Refused (cause.Tenant t)) u m q long known let_go x = absurd x
-    by_reply (answer.Refused (cause.Kind n)) u m q long known let_go x = absurd x
-    by_reply (answer.Refused (cause.Cost n)) u m q long known let_go x = absurd x
-    by_reply (answer.Refused (cause.Slots n)) u m q long known let_go x = absurd x
-    by_reply (answer.Refused (cause.Worker n)) u m q long known let_go x = absurd x
-    by_reply (answer.Refused (cause.Busy n)) u m q long known let_go x = absurd x
-    by_reply (answer.Refused cause.NotRunning) u m q long known let_go x = absurd x
-    by_reply (answer.Refused (cause.Falling last given)) u m q long known let_go x = absurd x
-    by_reply (answer.Refused (cause.Weight n)) u m q long known let_go x = absurd x
-    by_reply (answer.Refused (cause.Workers n)) u m q long known let_go x = absurd x
-    by_reply (answer.Refused (cause.NotWaiting n)) u m q long known let_go x = absurd x
-    by_reply (answer.Run request estimate label) u m q long known let_go x = absurd x
-    by_reply answer.Accepted u m q long known let_go x = absurd x
-    by_reply answer.Idle u m q long known let_go x = absurd x
-    by_reply answer.Drained u m q long known let_go x = absurd x
-    by_reply (answer.Retired n) u m q long known let_go x = absurd x
-    by_reply (answer.Withdrawn label) u m q long known let_go x = absurd x
+    by_reply r u m q long known let_go x = elim (forwarded_or_full r u m q o w x) [
+      | inl y ↦ by_admission u m q (Forwarded y.0) o w long known refl let_go y.1
+      | inr y ↦ absurd (subst IsTicket y.0 ticket)
+    ]
 
     by_submit : (m : ℕ) (q : Admitted) → IsLetIn c v q → AnswersSubmit c m v q o w
         → room_of c w ≡ entered (room_of c v) q.slot

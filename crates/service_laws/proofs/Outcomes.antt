@@ -1,5 +1,5 @@
 -- Which calls are answered by a grant or by rest: next alone.
-use Rattle.std.proofs.Common.{ℕ, ◌≡◌, List, [], ◌∷◌, Option, Some, None, sym, subst}
+use Rattle.std.proofs.Common.{ℕ, ◌≡◌, ◌⊎◌, List, [], ◌∷◌, Option, Some, None, sym, subst, inl, inr}
 use Rattle.std.specs.Prelude.{◌==◌, slice_get, is_none}
 use Rattle.fq_model.specs.declared.event.Call.{Call}
 use Rattle.fq_model.specs.declared.event.Cause.TheVariants as cause
@@ -12,7 +12,8 @@ use Rattle.service_model.specs.declared.config.ServiceConfig.{ServiceConfig}
 use Rattle.service_model.specs.declared.outcome.ServiceOutcome.{ServiceOutcome}
 use Rattle.service_model.specs.declared.outcome.ServiceOutcome.TheVariants as told
 use Rattle.service_model.specs.declared.refusal.ServiceRefusal.{ServiceRefusal}
-use Rattle.service_model.specs.View.{Held, Admitted, ServiceView, is_waiting, ticket_on}
+use Rattle.service_model.specs.declared.refusal.ServiceRefusal.TheVariants as refusals
+use Rattle.service_model.specs.View.{Held, Forwarded, Admitted, ServiceView, is_waiting, ticket_on}
 use Rattle.service_model.specs.Rows.{IsAnswered, RefusedOrElse}
 use Rattle.service_model.specs.Limits.{goes_at_once}
 use Rattle.service_model.specs.Submission.{submit_cause, IsAdmitted, IsForwardedBy, GoesAtOnce, AnswersSubmit}
@@ -43,28 +44,37 @@ or_else (Some c) v o w A f x = plain_if x.0 tt
 
 -- ---- submits
 
+-- by the scheduler's reply a request is admitted as a forwarded one, or refused for want of room
+pub forwarded_or_full : (r : Reply) (v : ServiceView) (m : ℕ) (q : Admitted) (o : ServiceOutcome) (w : ServiceView)
+    → IsForwardedBy r v m q o w
+    → ((request : ℕ) × IsAdmitted v m q (Forwarded request) o w) ⊎ IsAnswered (told.Refused refusals.Full) v o w
+forwarded_or_full (answer.Request request) v m q o w x = inl (request, x)
+forwarded_or_full (answer.Refused (cause.Full entries)) v m q o w x = inr x
+forwarded_or_full (answer.Refused cause.Closed) v m q o w x = absurd x
+forwarded_or_full (answer.Refused (cause.Tenant t)) v m q o w x = absurd x
+forwarded_or_full (answer.Refused (cause.Kind k)) v m q o w x = absurd x
+forwarded_or_full (answer.Refused (cause.Cost n)) v m q o w x = absurd x
+forwarded_or_full (answer.Refused (cause.Slots n)) v m q o w x = absurd x
+forwarded_or_full (answer.Refused (cause.Worker n)) v m q o w x = absurd x
+forwarded_or_full (answer.Refused (cause.Busy n)) v m q o w x = absurd x
+forwarded_or_full (answer.Refused cause.NotRunning) v m q o w x = absurd x
+forwarded_or_full (answer.Refused (cause.Falling last given)) v m q o w x = absurd x
+forwarded_or_full (answer.Refused (cause.Weight n)) v m q o w x = absurd x
+forwarded_or_full (answer.Refused (cause.Workers n)) v m q o w x = absurd x
+forwarded_or_full (answer.Refused (cause.NotWaiting n)) v m q o w x = absurd x
+forwarded_or_full (answer.Run request estimate label) v m q o w x = absurd x
+forwarded_or_full answer.Accepted v m q o w x = absurd x
+forwarded_or_full answer.Idle v m q o w x = absurd x
+forwarded_or_full answer.Drained v m q o w x = absurd x
+forwarded_or_full (answer.Retired n) v m q o w x = absurd x
+forwarded_or_full (answer.Withdrawn label) v m q o w x = absurd x
+
 forwarded : (r : Reply) (v : ServiceView) (m : ℕ) (q : Admitted) (o : ServiceOutcome) (w : ServiceView)
     → IsForwardedBy r v m q o w → IsPlain o
-forwarded (answer.Request request) v m q o w x = plain_if x.0 tt
-forwarded (answer.Refused (cause.Full entries)) v m q o w x = plain_if x.0 tt
-forwarded (answer.Refused cause.Closed) v m q o w x = absurd x
-forwarded (answer.Refused (cause.Tenant t)) v m q o w x = absurd x
-forwarded (answer.Refused (cause.Kind k)) v m q o w x = absurd x
-forwarded (answer.Refused (cause.Cost n)) v m q o w x = absurd x
-forwarded (answer.Refused (cause.Slots n)) v m q o w x = absurd x
-forwarded (answer.Refused (cause.Worker n)) v m q o w x = absurd x
-forwarded (answer.Refused (cause.Busy n)) v m q o w x = absurd x
-forwarded (answer.Refused cause.NotRunning) v m q o w x = absurd x
-forwarded (answer.Refused (cause.Falling last given)) v m q o w x = absurd x
-forwarded (answer.Refused (cause.Weight n)) v m q o w x = absurd x
-forwarded (answer.Refused (cause.Workers n)) v m q o w x = absurd x
-forwarded (answer.Refused (cause.NotWaiting n)) v m q o w x = absurd x
-forwarded (answer.Run request estimate label) v m q o w x = absurd x
-forwarded answer.Accepted v m q o w x = absurd x
-forwarded answer.Idle v m q o w x = absurd x
-forwarded answer.Drained v m q o w x = absurd x
-forwarded (answer.Retired n) v m q o w x = absurd x
-forwarded (answer.Withdrawn label) v m q o w x = absurd x
+forwarded r v m q o w x = elim (forwarded_or_full r v m q o w x) [
+  | inl y ↦ plain_if y.1.0 tt
+  | inr y ↦ plain_if y.0 tt
+]
 
 submitted : (c : ServiceConfig) (m : ℕ) (v : ServiceView) (q : Admitted) (o : ServiceOutcome) (w : ServiceView)
     → AnswersSubmit c m v q o w → IsPlain o
@@ -75,28 +85,37 @@ submitted c m v q o w =
 
 -- ---- changes
 
+-- by the scheduler's reply something changes, or is refused for want of room
+pub changed_or_full : (r : Reply) (wanted : ServiceOutcome) (change : ServiceView → ServiceView) (v : ServiceView)
+    (o : ServiceOutcome) (w : ServiceView) → IsChangedBy r wanted change v o w
+    → IsAnswered wanted (change v) o w ⊎ IsAnswered (told.Refused refusals.Full) v o w
+changed_or_full answer.Accepted wanted change v o w x = inl x
+changed_or_full (answer.Refused (cause.Full entries)) wanted change v o w x = inr x
+changed_or_full (answer.Refused cause.Closed) wanted change v o w x = absurd x
+changed_or_full (answer.Refused (cause.Tenant t)) wanted change v o w x = absurd x
+changed_or_full (answer.Refused (cause.Kind k)) wanted change v o w x = absurd x
+changed_or_full (answer.Refused (cause.Cost n)) wanted change v o w x = absurd x
+changed_or_full (answer.Refused (cause.Slots n)) wanted change v o w x = absurd x
+changed_or_full (answer.Refused (cause.Worker n)) wanted change v o w x = absurd x
+changed_or_full (answer.Refused (cause.Busy n)) wanted change v o w x = absurd x
+changed_or_full (answer.Refused cause.NotRunning) wanted change v o w x = absurd x
+changed_or_full (answer.Refused (cause.Falling last given)) wanted change v o w x = absurd x
+changed_or_full (answer.Refused (cause.Weight n)) wanted change v o w x = absurd x
+changed_or_full (answer.Refused (cause.Workers n)) wanted change v o w x = absurd x
+changed_or_full (answer.Refused (cause.NotWaiting n)) wanted change v o w x = absurd x
+changed_or_full (answer.Request request) wanted change v o w x = absurd x
+changed_or_full (answer.Run request estimate label) wanted change v o w x = absurd x
+changed_or_full answer.Idle wanted change v o w x = absurd x
+changed_or_full answer.Drained wanted change v o w x = absurd x
+changed_or_full (answer.Retired n) wanted change v o w x = absurd x
+changed_or_full (answer.Withdrawn label) wanted change v o w x = absurd x
+
 changed : (r : Reply) (wanted : ServiceOutcome) (change : ServiceView → ServiceView) (v : ServiceView)
     (o : ServiceOutcome) (w : ServiceView) → IsPlain wanted → IsChangedBy r wanted change v o w → IsPlain o
-changed answer.Accepted wanted change v o w plain x = plain_if x.0 plain
-changed (answer.Refused (cause.Full entries)) wanted change v o w plain x = plain_if x.0 tt
-changed (answer.Refused cause.Closed) wanted change v o w plain x = absurd x
-changed (answer.Refused (cause.Tenant t)) wanted change v o w plain x = absurd x
-changed (answer.Refused (cause.Kind k)) wanted change v o w plain x = absurd x
-changed (answer.Refused (cause.Cost n)) wanted change v o w plain x = absurd x
-changed (answer.Refused (cause.Slots n)) wanted change v o w plain x = absurd x
-changed (answer.Refused (cause.Worker n)) wanted change v o w plain x = absurd x
-changed (answer.Refused (cause.Busy n)) wanted change v o w plain x = absurd x
-changed (answer.Refused cause.NotRunning) wanted change v o w plain x = absurd x
-changed (answer.Refused (cause.Falling last given)) wanted change v o w plain x = absurd x
-changed (answer.Refused (cause.Weight n)) wanted change v o w plain x = absurd x
-changed (answer.Refused (cause.Workers n)) wanted change v o w plain x = absurd x
-changed (answer.Refused (cause.NotWaiting n)) wanted change v o w plain x = absurd x
-changed (answer.Request request) wanted change v o w plain x = absurd x
-changed (answer.Run request estimate label) wanted change v o w plain x = absurd x
-changed answer.Idle wanted change v o w plain x = absurd x
-changed answer.Drained wanted change v o w plain x = absurd x
-changed (answer.Retired n) wanted change v o w plain x = absurd x
-changed (answer.Withdrawn label) wanted change v o w plain x = absurd x
+changed r wanted change v o w plain x = elim (changed_or_full r wanted change v o w x) [
+  | inl y ↦ plain_if y.0 plain
+  | inr y ↦ plain_if y.0 tt
+]
 
 made : (c : ServiceConfig) (m : ℕ) (v : ServiceView) (asked : Call) (wanted : ServiceOutcome)
     (change : ServiceView → ServiceView) (o : ServiceOutcome) (w : ServiceView) → IsPlain wanted
