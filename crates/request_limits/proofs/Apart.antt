@@ -1,6 +1,7 @@
 -- Cells of different slots or kinds are different.
-use Rattle.std.proofs.Common.{ℕ, ◌≢◌, List, [], sum, ap, inl, inr}
+use Rattle.std.proofs.Common.{ℕ, ◌≢◌, List, [], sum, ap, inl, inr, length}
 use Rattle.std.proofs.lemmas.List.{get_or-set_same, get_or-set_other}
+use Rattle.std.proofs.lemmas.List.Sums.{sum_by-set}
 use Rattle.std.proofs.lemmas.Nat.{same_from_place}
 use Rattle.request_limits.specs.declared.held.Held.{Held}
 use Rattle.request_limits.specs.Limits.{LimitsView, HasCell, HasCells, kinds, cell_of}
@@ -27,6 +28,7 @@ module _ (v : LimitsView) (slot kind : ℕ) (known : HasCell v slot kind) where
     held_alone list = record {
       here = get_or-set_same v.held (cell_of v slot kind) list [] (cell_held v slot kind cells known);
       there = λ s k other. get_or-set_other v.held (cell_of v slot kind) (cell_of v s k) list [] (other_cell s k other);
+      counted = sum_by-set (λ (l : List Held). length l) v.held (cell_of v slot kind) list [] (cell_held v slot kind cells known);
     }
 
 pub cells_are_apart : CellsAreApart

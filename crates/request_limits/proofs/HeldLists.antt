@@ -1,14 +1,10 @@
 -- Held requests as the items of lists.
-use Rattle.std.proofs.Common.{ℕ, ◌≡◌, ◌≢◌, ◌<◌, List, [], ◌∷◌, ◌++◌, length, map, get_or, set, drop, sum_by, slice_get, option_map, zero, suc, eqb, cond, arith, refl, ap, sym, ◌∙◌}
-use Rattle.std.specs.List.{All}
+use Rattle.std.proofs.Common.{ℕ, ◌≡◌, List, [], ◌∷◌, ◌++◌, length, map, get_or, set, drop, sum_by, slice_get, option_map, zero, suc, arith, refl, ap, sym, ◌∙◌}
 use Rattle.std.proofs.lemmas.List.{map-set, map-append, length-map, drop-map}
 use Rattle.std.proofs.lemmas.List.Sums.{sum_by-cons}
-use Rattle.std.proofs.lemmas.List.Elements.{All-head, All-tail}
 use Rattle.std.proofs.lemmas.Option.{slice_get-map}
-use Rattle.std.proofs.lemmas.Bool.{ne_eqb, cond-false}
 use Rattle.waiting_lists.specs.declared.item.Item.{Item}
 use Rattle.request_limits.specs.declared.held.Held.{Held}
-use Rattle.request_limits.specs.Limits.{count_at}
 use Rattle.request_limits.specs.Kept.{held_of, held_lists}
 
 -- the list of a cell
@@ -38,19 +34,3 @@ pub held_count : (lists : List (List (Item ℕ))) → sum_by (λ (list : List He
 held_count [] = refl
 held_count (list ∷ lists) =
     omega (arith, held_count lists, length-map list held_of, sum_by-cons (λ (l : List Held). length l) (map held_of list) (held_lists lists), sum_by-cons (λ (l : List (Item ℕ)). length l) list lists)
-
--- whether a held request has this place, as a number
-abbrev pub one_at : ℕ → Held → ℕ
-one_at place h = cond (eqb h.place place) 1 0
-
-count_none : (place : ℕ) (items : List (Item ℕ)) → All (λ i. i.request ≢ place) items → count_at place (map held_of items) ≡ 0
-count_none place [] none = refl
-count_none place (i ∷ items) none =
-    let first : one_at place (held_of i) ≡ 0 = cond-false {A = ℕ} (eqb i.request place) 1 0 (ne_eqb i.request place (All-head (λ (j : Item ℕ). j.request ≢ place) i items none)) in
-    omega (arith, first, count_none place items (All-tail (λ (j : Item ℕ). j.request ≢ place) i items none), sum_by-cons (one_at place) (held_of i) (map held_of items))
-
--- if no list has an item of this number, no held request has this place
-pub none_at : (place : ℕ) (lists : List (List (Item ℕ))) → ((cell : ℕ) → cell < length lists → All (λ i. i.request ≢ place) (get_or lists cell [])) → sum_by (count_at place) (held_lists lists) ≡ 0
-none_at place [] none = refl
-none_at place (list ∷ lists) none =
-    omega (arith, count_none place list (none 0 (omega arith)), none_at place lists (λ cell below. none (suc cell) (omega arith)), sum_by-cons (count_at place) (map held_of list) (held_lists lists))

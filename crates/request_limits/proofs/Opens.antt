@@ -3,8 +3,8 @@ use Rattle.std.proofs.Common.{ℕ, zero, suc, ◌≡◌, ◌*◌, ◌<◌, ◌�
 use Rattle.std.proofs.lemmas.List.{length-replicate, get_or-replicate}
 use Rattle.std.proofs.lemmas.List.Folds.{sum_by-replicate}
 use Rattle.waiting_lists.specs.Lists.{ListsView}
-use Rattle.request_limits.specs.Limits.{LimitsView, all_at, count_at, opened}
-use Rattle.request_limits.specs.Kept.{view_of, held_lists, Keeps}
+use Rattle.request_limits.specs.Limits.{LimitsView, opened}
+use Rattle.request_limits.specs.Kept.{view_of, held_lists, count_at, all_at, Keeps}
 use Rattle.request_limits.proofs.Rows.{row_of_zeros}
 
 lists_empty : (n : ℕ) → held_lists (replicate n []) ≡ replicate n []

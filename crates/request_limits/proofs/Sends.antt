@@ -1,11 +1,26 @@
 -- How the counts of forwarded requests change.
-use Rattle.std.proofs.Common.{ℕ, ◌≡◌, ◌+◌, ◌-◌, ◌*◌, ◌<◌, ◌≤◌, List, length, get_or, set, sum, arith, ap, sym, subst, ◌∙◌, inl, inr}
-use Rattle.std.proofs.lemmas.Bool.{cases_eq}
+use Rattle.std.proofs.Common.{ℕ, ◌≡◌, ◌+◌, ◌-◌, ◌*◌, ◌/◌, ◌%◌, ◌<◌, ◌≤◌, List, length, get_or, set, sum, arith, ap, sym, subst, ◌∙◌, inl, inr}
+use Rattle.std.proofs.lemmas.Bool.{cases_eq, cases_lt}
 use Rattle.std.proofs.lemmas.List.{length-set, get_or-set_same, get_or-set_other, get_or_read}
-use Rattle.std.proofs.lemmas.Nat.{mul-add-lt}
-use Rattle.request_limits.specs.Limits.{LimitsView, HasCells, HasCell, kinds, slots, cell_of, sent_in, sent_of, all_at, with_sent}
-use Rattle.request_limits.specs.Kept.{AreTotals, Keeps}
+use Rattle.std.proofs.lemmas.Nat.{mul-add-lt, div_below, div-add-mod'}
+use Rattle.request_limits.specs.Limits.{LimitsView, HasCells, HasCell, kinds, slots, cell_of, sent_in, sent_of, with_sent}
+use Rattle.request_limits.specs.Kept.{all_at, AreTotals, Keeps}
 use Rattle.request_limits.proofs.Rows.{cell_le_row, row_same, row_other}
+
+positive : (n s k : ℕ) → n < s * k → 0 < k
+positive n s k below = elim (cases_lt 0 k) [
+  | inl some ↦ some
+  | inr none ↦ let zero : k ≡ 0 = omega arith in absurd (omega (arith, below, ap (λ j. s * j) zero))
+]
+
+-- the slot and the kind of a cell
+pub split_known : (v : LimitsView) (cell : ℕ) → cell < slots v * kinds v → HasCell v (cell / kinds v) (cell % kinds v)
+split_known v cell below =
+    let some : 0 < kinds v = positive cell (slots v) (kinds v) below in
+    record { slot_known = div_below cell (kinds v) (slots v) some below; kind_known = omega (arith, some) }
+
+pub split_is : (v : LimitsView) (cell : ℕ) → cell ≡ cell_of v (cell / kinds v) (cell % kinds v)
+split_is v cell = sym (div-add-mod' cell (kinds v))
 
 module _ (v : LimitsView) (slot kind : ℕ) (cells : HasCells v) (known : HasCell v slot kind) where
   pub cell_below : cell_of v slot kind < slots v * kinds v

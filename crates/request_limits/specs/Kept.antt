@@ -1,9 +1,9 @@
 -- The invariant of the limits.
-use Rattle.std.specs.Prelude.{ℕ, ◌≡◌, ◌<◌, ◌≤◌, List, length, map, slice_index}
+use Rattle.std.specs.Prelude.{ℕ, ◌≡◌, ◌==◌, ◌<◌, ◌≤◌, List, length, map, sum_by, count_by, slice_index}
 use Rattle.waiting_lists.specs.declared.item.Item.{Item}
 use Rattle.waiting_lists.specs.Lists.{ListsView}
 use Rattle.request_limits.specs.declared.held.Held.{Held}
-use Rattle.request_limits.specs.Limits.{LimitsView, HasCells, slots, sent_of, all_at}
+use Rattle.request_limits.specs.Limits.{LimitsView, HasCells, slots, sent_of}
 
 -- a list has the places of requests as the numbers of its items, and the tickets as their jobs
 abbrev pub held_of : Item ℕ → Held
@@ -21,6 +21,13 @@ view_of kind_limits limits sent lists = record {
   held = held_lists lists.lists;
   room = lists.slots;
 }
+
+-- how many of some held requests have this place
+abbrev pub count_at : ℕ → List Held → ℕ
+count_at place list = count_by (λ h. h.place == place) list
+
+abbrev pub all_at : LimitsView → ℕ → ℕ
+all_at v place = sum_by (count_at place) v.held
 
 -- each total is what its slot has forwarded, over all kinds
 pub record AreTotals (v : LimitsView) (totals : List ℕ) : Type 0 where

@@ -1,7 +1,7 @@
 -- Laws of the limits.
-use Rattle.std.specs.Prelude.{ℕ, ◌≡◌, ◌≢◌, ◌<◌, ◌≤◌, ◌+◌, ◌⊎◌, true, List, [], Contains, AllPairs, All}
+use Rattle.std.specs.Prelude.{ℕ, ◌≡◌, ◌≢◌, ◌<◌, ◌≤◌, ◌+◌, ◌⊎◌, true, List, [], length, Contains, AllPairs, All}
 use Rattle.request_limits.specs.declared.held.Held.{Held}
-use Rattle.request_limits.specs.Limits.{LimitsView, HasCell, HasCells, kinds, slots, limit_of, kind_limit_of, sent_of, sent_in, passes, held_in, with_sent, with_one_more, with_held, with_youngest, without_oldest, IsRemoved}
+use Rattle.request_limits.specs.Limits.{LimitsView, HasCell, HasCells, kinds, slots, limit_of, kind_limit_of, sent_of, sent_in, passes, held_in, all_held, with_sent, with_one_more, with_held, with_youngest, without_oldest, IsRemoved}
 use Rattle.request_limits.specs.Next.{NoneMayGo, IsNextToGo}
 
 -- ---- cells
@@ -17,10 +17,11 @@ pub record SentChangesAlone (v : LimitsView) (slot kind n : ℕ) : Type 0 where
   pub sum_here : sent_of (with_sent v slot kind n) slot + sent_in v slot kind ≡ sent_of v slot + n
   pub sum_there : (s : ℕ) → s ≢ slot → sent_of (with_sent v slot kind n) s ≡ sent_of v s
 
--- other held requests of a slot and kind change those of no other
+-- other held requests of a slot and kind change those of no other, and the count of all alike
 pub record HeldChangesAlone (v : LimitsView) (slot kind : ℕ) (list : List Held) : Type 0 where
   pub here : held_in (with_held v slot kind list) slot kind ≡ list
   pub there : (s k : ℕ) → HasOtherCell v slot kind s k → held_in (with_held v slot kind list) s k ≡ held_in v s k
+  pub counted : all_held (with_held v slot kind list) + length (held_in v slot kind) ≡ all_held v + length list
 
 abbrev pub CellsAreApart : Type 0
 CellsAreApart = (v : LimitsView) (slot kind : ℕ) → HasCells v → HasCell v slot kind

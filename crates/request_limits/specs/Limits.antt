@@ -1,5 +1,5 @@
 -- The limits of tenants and of their kinds of requests, what is forwarded, and what is held back.
-use Rattle.std.specs.Prelude.{ℕ, ◌≡◌, ◌<◌, ◌≤◌, ◌+◌, ◌-◌, ◌*◌, ◌==◌, not, Bool, ◌&&◌, ◌||◌, List, [], ◌∷◌, ◌++◌, Option, length, replicate, take, drop, sum, sum_by, count_by, is_some, nat_lt, slice_get, slice_index, slice_index_or, slice_set}
+use Rattle.std.specs.Prelude.{ℕ, ◌≡◌, ◌≢◌, ◌<◌, ◌≤◌, ◌+◌, ◌-◌, ◌*◌, ◌==◌, not, Bool, ◌&&◌, ◌||◌, List, [], ◌∷◌, ◌++◌, Option, length, replicate, take, drop, sum, sum_by, All, is_some, nat_lt, slice_get, slice_index, slice_index_or, slice_set}
 use Rattle.request_limits.specs.declared.held.Held.{Held}
 
 -- The view of the limits in contracts. A tenant has a slot, and each slot a cell for each kind; the cells of a slot
@@ -75,16 +75,9 @@ goes_at_once v slot kind = passes v slot kind && not (is_some (oldest_in v slot 
 abbrev pub all_held : LimitsView → ℕ
 all_held v = sum_by (λ list. length list) v.held
 
--- how many of some held requests have this place
-abbrev pub count_at : ℕ → List Held → ℕ
-count_at place list = count_by (λ h. h.place == place) list
-
-abbrev pub all_at : LimitsView → ℕ → ℕ
-all_at v place = sum_by (count_at place) v.held
-
 -- no held request has this place
 abbrev pub IsFree : LimitsView → ℕ → Type 0
-IsFree v place = all_at v place ≡ 0
+IsFree v place = (slot kind : ℕ) → HasCell v slot kind → All (λ h. h.place ≢ place) (held_in v slot kind)
 
 -- ---- changes
 

@@ -1,8 +1,8 @@
 //! The laws, one function a law: its contract is the law, and its body is empty.
 ghost use Rattle.request_limits.specs.Laws.{CellsAreApart, PassingKeepsLimits, NextIsOldest, NoneIsLeft, OrderIsKept};
 
-/// Another count of a slot and kind, or other held requests of them, change those of no other slot and kind; the count
-/// of the slot over all kinds changes as the one does, and that of no other slot.
+/// Another count of a slot and kind, or other held requests of them, change those of no other slot and kind. The sum of
+/// the slot and the number of all held requests change alike, and the sum of no other slot does.
 pub fn cells_are_apart()
     ensures { CellsAreApart }
 {}

@@ -10,14 +10,14 @@ use Rattle.request_limits.proofs.limits.RequestLimits.remove.Goals as goal
 pub returns-in_err-item-clause-none : goal.returns-in_err-item-clause-none
 returns-in_err-item-clause-none c =
     let t = c.self.inside in
-    let free : IsFree c.args.self.now c.args.place = subst (λ (u : LimitsView). IsFree u c.args.place) c.self.view_is (none_free t.kind_limits.items t.limits.items t.sent.items t.held c.args.place c.in_err-item.ensures.none) in
+    let free : IsFree c.args.self.now c.args.place = subst (λ (u : LimitsView). IsFree u c.args.place) c.self.view_is (none_free t.kind_limits.items t.limits.items t.sent.items t.held c.args.place c.self.invariant.cells c.in_err-item.ensures.none) in
     rw c.from_residual.ensures free
 
 pub returns-in_err-item-clause-gone : goal.returns-in_err-item-clause-gone
 returns-in_err-item-clause-gone c =
     let t = c.self.inside in
     subst (λ (w : ListsView ℕ). IsFree (view_of t.kind_limits.items t.limits.items t.sent.items w) c.args.place) (sym c.in_err-item.ensures.unchanged)
-    (none_free t.kind_limits.items t.limits.items t.sent.items t.held c.args.place c.in_err-item.ensures.none)
+    (none_free t.kind_limits.items t.limits.items t.sent.items t.held c.args.place c.self.invariant.cells c.in_err-item.ensures.none)
 
 pub invariant_of-self-2 : goal.invariant_of-self-2
 invariant_of-self-2 c =
