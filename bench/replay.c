@@ -1,7 +1,7 @@
 // Serves the requests of a trace by a simulated pool over the library, whose workers may be patient, like those of the pool in rust/:
 // before a request that is before its time a worker waits for a while, so that it is a reserve for short requests. At one moment the
 // reports come first, then the completions, by worker, then the submits, then the takes, by worker: as in `twodfq run`, whose takes
-// are these where nobody is patient. tools/reserve.py builds it, and writes its input, numbers with spaces between them:
+// are these if nobody is patient. tools/reserve.py builds it, and writes its input, numbers with spaces between them:
 //
 //   WORKERS POLICY ESTIMATE INITIAL REFRESH PATIENCE TENANTS KINDS REQUESTS     policy and estimate by their numbers in twodfq.h
 //   WEIGHT                                   of each tenant
