@@ -1,7 +1,7 @@
 -- The answers from histories, and from simulated histories.
 use Rattle.std.proofs.Common.{ℕ, ◌<◌, ◌≤◌, ◌≡◌, ◌∙◌, sym, ap, subst, refl, arith, Bool, true, false, ◌&&◌, List, length, Result, Ok, Err}
 use Rattle.std.proofs.lemmas.Bool.{false≢true, ltb-true, ltb-false, lt-ltb}
-use Rattle.fluid_reference.proofs.Lists.{list_length}
+use Rattle.fq_laws.proofs.Lists.{list_length}
 use Rattle.fq_model.specs.declared.config.Config.{Config}
 use Rattle.fq_model.specs.declared.event.Entry.{Entry}
 use Rattle.fq_model.specs.declared.limits.TheConstants.{MOST_ENTRIES, TEXT_TENANTS, MOST_ROWS}

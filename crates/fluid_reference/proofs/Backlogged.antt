@@ -12,7 +12,8 @@ use Rattle.fq_model.specs.Sums.{sum_below}
 use Rattle.fq_laws.proofs.Sums.{sum_same, sum_at, sum_zero}
 use Rattle.water_level.specs.Backlogs.{IsBacklog}
 use Rattle.fluid_reference.specs.Slots.{AreBacklogged, CanShare, has_backlog, number_at, want_of, wants_of, served_after, served_next}
-use Rattle.fluid_reference.proofs.Lists.{list_at, list_length, sum_of_list, sum_of_map}
+use Rattle.fq_laws.proofs.Lists.{list_at, list_length}
+use Rattle.fluid_reference.proofs.Lists.{sum_of_list, sum_of_map}
 use Rattle.fluid_reference.proofs.Known.{wants_in_range, level_of_wants}
 use Rattle.fluid_reference.proofs.Within.{gift_low}
 

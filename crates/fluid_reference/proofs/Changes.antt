@@ -11,7 +11,7 @@ use Rattle.fq_model.specs.History.{History, weight_at, pool_at}
 use Rattle.fq_model.specs.Time.{last_moment}
 use Rattle.fq_model.specs.Level.{gift, level}
 use Rattle.fq_model.specs.Fluid.{is_all_by, prefix_at, IsInOrder, changes_of, history_of_changes, change_entry, with_change, fluid, slot_gift, backlog_at, costs_by, ChangesSayAll}
-use Rattle.fluid_reference.proofs.Lists.{list_same}
+use Rattle.fq_laws.proofs.Lists.{list_same}
 
 -- the changes of a history as a history
 abbrev G : History → History

@@ -19,7 +19,7 @@ use Rattle.water_level.specs.Backlogs.{IsBacklog}
 use Rattle.water_level.proofs.TheOne.{the_one}
 use Rattle.fq_model.specs.Fluid.{prefix_at, history_of_changes, fluid, slot_gift, backlog_at, backlogs_at, costs_by, cost_by}
 use Rattle.fluid_reference.specs.Slots.{IsRowOf, CostsAre, SettingIs, row_of, change_of, number_at, want_of, wants_of, served_after, served_next, level_of_slot}
-use Rattle.fluid_reference.proofs.Lists.{list_same, list_at, list_length}
+use Rattle.fq_laws.proofs.Lists.{list_same, list_at, list_length}
 use Rattle.fluid_reference.proofs.Places.{prefix_to, costs_to}
 use Rattle.fluid_reference.proofs.Within.{within}
 

@@ -21,7 +21,8 @@ use Rattle.fq_model.specs.Level.{gift, level}
 use Rattle.fq_model.specs.Fluid.{prefix_at, history_of_changes, change_act, change_entry, fluid, fluid_table, slot_gift, backlog_at, cost_by, costs_by}
 use Rattle.fluid_reference.specs.Slots.{change_of, changes_for, column_of, cost_of, level_in, level_of_slot, levels_of, number_at, own_backlog, owner_of, owner_of_set, replayed, replayed_table, row_of, rows_for, slot_at}
 use Rattle.fluid_reference.proofs.Changes.{whole, not_by}
-use Rattle.fluid_reference.proofs.Lists.{list_at, list_length, list_same, sum_same}
+use Rattle.fq_laws.proofs.Lists.{list_at, list_length, list_same}
+use Rattle.fluid_reference.proofs.Lists.{sum_same}
 use Rattle.fluid_reference.proofs.Places.{all_by, costs_to, one_more}
 use Rattle.fluid_reference.proofs.Steps.{weight_more}
 use Rattle.fluid_reference.proofs.Within.{costs_more, gift_low}

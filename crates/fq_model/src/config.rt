@@ -226,6 +226,15 @@ impl Checked {
         self.config.weights.as_slice()
     }
 
+    /// Gives the tenants other weights, one for each. Takes no memory.
+    pub fn set_weights(&mut self, weights: &[u32])
+        requires tenants { length weights.now ≡ length self.old.weights }
+        requires in_range { All (IsWithin 1 (greatest_weight self.old.limits)) weights.now }
+        ensures { self.new ≡ record self.old { weights = weights.now } }
+    {
+        self.config.weights.items.copy_from_slice(weights);
+    }
+
     /// 1 to 64.
     pub fn kinds(&self) -> u32
         ensures value { result ≡ self.now.kinds }

@@ -7,7 +7,8 @@ use Rattle.std.proofs.lemmas.List.Sums.{sum_by-set, sum_by_more, sum_by-le-sum_b
 use Rattle.std.proofs.lemmas.Nat.{le-div}
 use Rattle.std.proofs.Math.Seq.{take-set-lt}
 use Rattle.std.proofs.Math.Nat.{div-le_of_le-mul, mul-le-mul_left, mul-le-mul_right, div-mul-le_self}
-use Rattle.fluid_reference.proofs.Lists.{sum_none, list_same}
+use Rattle.fq_laws.proofs.Lists.{list_same}
+use Rattle.fluid_reference.proofs.Lists.{sum_none}
 use Rattle.fq_model.specs.Lag.{work_between}
 use Rattle.lag_report.specs.declared.course.Course.{Course}
 use Rattle.lag_report.specs.Work.{work_in, GainsAre, samples_from, lags_from}

@@ -3,7 +3,7 @@ use Rattle.std.proofs.Common.{ℕ, zero, suc, ◌-◌, ◌*◌, ◌<◌, ◌≤�
 use Rattle.std.specs.List.Sorted.{IsPermutation}
 use Rattle.std.proofs.lemmas.List.Sums.{length-filter, sum_by_push}
 use Rattle.std.proofs.lemmas.List.Sorted.{sum_by-IsPermutation}
-use Rattle.fluid_reference.proofs.Lists.{list_same, list_at, list_length}
+use Rattle.fq_laws.proofs.Lists.{list_same, list_at, list_length}
 use Rattle.fluid_reference.proofs.Known.{served_low}
 use Rattle.fluid_reference.proofs.Changes.{changes_say_all}
 use Rattle.fluid_reference.specs.Slots.{IsRowOf, table_of_changes, number_at, slot_at, column_of}

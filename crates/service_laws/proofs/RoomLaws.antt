@@ -7,7 +7,7 @@ use Rattle.std.proofs.lemmas.List.Elements.{All-nil}
 use Rattle.fq_model.specs.declared.config.ConfigFault.{ConfigFault}
 use Rattle.fq_model.specs.Limits.{config_fault}
 use Rattle.fq_model.specs.Sums.{list_below}
-use Rattle.fluid_reference.proofs.Lists.{list_length, list_at}
+use Rattle.fq_laws.proofs.Lists.{list_length, list_at}
 use Rattle.waiting_room.specs.Room.{all_waiting}
 use Rattle.waiting_room.specs.Runs as rooms
 use Rattle.waiting_room.proofs.Always.{waiting_fits}

@@ -9,7 +9,7 @@ use Rattle.std.proofs.lemmas.List.Elements.{All-nil, All-head, All-tail, All-con
 use Rattle.std.proofs.lemmas.List.Sums.{sum_by-set, sum_by-append, sum_by-cons}
 use Rattle.std.proofs.lemmas.Option.{slice_get_within, get_or_from_slice_get}
 use Rattle.fq_model.specs.Sums.{list_below}
-use Rattle.fluid_reference.proofs.Lists.{list_same, list_length, list_at}
+use Rattle.fq_laws.proofs.Lists.{list_same, list_length, list_at}
 use Rattle.waiting_room.specs.Room.{waiting_of, with_waiting, entered, left}
 use Rattle.waiting_room.specs.Runs as rooms
 use Rattle.waiting_room.specs.Runs.{Enters, Leaves}

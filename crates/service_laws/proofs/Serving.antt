@@ -23,7 +23,7 @@ use Rattle.fq_model.specs.Sums.{list_below}
 use Rattle.fq_laws.proofs.Limits.{no_greater_weight}
 use Rattle.fq_laws.proofs.Outcome.{outcome_from_legal}
 use Rattle.fq_laws.proofs.Rules.Answers.{answer_legal}
-use Rattle.fluid_reference.proofs.Lists.{list_length, list_at}
+use Rattle.fq_laws.proofs.Lists.{list_length, list_at}
 use Rattle.service_model.specs.declared.config.ServiceConfig.{ServiceConfig}
 use Rattle.service_model.specs.declared.config.ServiceFault.{ServiceFault}
 use Rattle.service_model.specs.View.{Scheduler, ServiceView}

@@ -14,7 +14,8 @@ use Rattle.fq_model.specs.Level.{gift}
 use Rattle.fq_model.specs.Sums.{list_below}
 use Rattle.fluid_reference.specs.Slots.{changes_for, own_backlog, owner_of, replayed, row_of}
 use Rattle.fluid_reference.proofs.Known.{by_later, still_before}
-use Rattle.fluid_reference.proofs.Lists.{list_more, list_none, list_resized}
+use Rattle.fq_laws.proofs.Lists.{list_more, list_none}
+use Rattle.fluid_reference.proofs.Lists.{list_resized}
 use Rattle.fluid_reference.proofs.Places.{prefix_to}
 use Rattle.fluid_reference.proofs.Replays.{came_is, replayed_low, replayed_more, replayed_none, replayed_still, weight_none}
 use Rattle.fluid_reference.proofs.replaying.replay.Goals as goal

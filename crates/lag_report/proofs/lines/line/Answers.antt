@@ -2,7 +2,7 @@ use Rattle.std.proofs.Common.{ℕ, ◌-◌, ◌≡◌, length, sum, arith, rules
 use Rattle.fluid_reference.specs.Slots.{number_at}
 use mir.Val.{SFits}
 use Rattle.std.proofs.lemmas.Int.{to_z-of_z}
-use Rattle.fluid_reference.proofs.Lists.{list_length}
+use Rattle.fq_laws.proofs.Lists.{list_length}
 use Rattle.fq_model.specs.declared.lag.TenantLag.{TenantLag}
 use Rattle.lag_report.specs.declared.samples.Ranked.{Ranked}
 use Rattle.lag_report.specs.Ranked.{ranked}

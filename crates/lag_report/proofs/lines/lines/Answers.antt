@@ -2,7 +2,7 @@ use Rattle.std.proofs.Common.{ℕ, ◌≡◌, ◌<◌, ◌≤◌, ◌++◌, ◌�
 use Rattle.fluid_reference.specs.Slots.{column_of, number_at, slot_at}
 use Rattle.std.proofs.lemmas.List.Elements.{All-filter}
 use Rattle.std.proofs.lemmas.List.Sums.{length-filter, count_by-le-length}
-use Rattle.fluid_reference.proofs.Lists.{list_none, list_more, list_length, list_at}
+use Rattle.fq_laws.proofs.Lists.{list_none, list_more, list_length, list_at}
 use Rattle.fq_model.specs.Sums.{list_below}
 use Rattle.fq_model.specs.declared.lag.TenantLag.{TenantLag}
 use Rattle.lag_report.specs.declared.course.Course.{Course}

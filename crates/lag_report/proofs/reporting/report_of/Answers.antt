@@ -6,7 +6,7 @@ use Rattle.std.proofs.lemmas.List.{length-reverse}
 use Rattle.fq_model.specs.declared.limits.TheConstants.{TEXT_TENANTS}
 use Rattle.fq_laws.proofs.Limits.{within_text}
 use Rattle.fluid_reference.specs.Slots.{IsRowOf, IsChangeOf}
-use Rattle.fluid_reference.proofs.Lists.{list_length}
+use Rattle.fq_laws.proofs.Lists.{list_length}
 use Rattle.fq_model.specs.declared.fluid.Change.{Change}
 use Rattle.fq_model.specs.History.{history_of, submits, is_ended}
 use Rattle.fq_model.specs.Fluid.{fluid_table, fluid_rows_of, changes_of}

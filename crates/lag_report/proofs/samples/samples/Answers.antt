@@ -3,7 +3,7 @@ use mir.Val.{SFits, to_z, of_z}
 use Rattle.std.proofs.lemmas.Int.{ints}
 use Rattle.std.proofs.lemmas.List.Sums.{sum_by_more, sum_by_more_le}
 use Rattle.fq_model.specs.Sums.{list_below}
-use Rattle.fluid_reference.proofs.Lists.{list_length, list_none, list_more}
+use Rattle.fq_laws.proofs.Lists.{list_length, list_none, list_more}
 use Rattle.lag_report.specs.Work.{sample_at}
 use Rattle.lag_report.proofs.samples.samples.Goals as goal
 

@@ -1,5 +1,5 @@
 use Rattle.std.proofs.Common.{sym, subst, ap, length, ◌∙◌}
-use Rattle.fluid_reference.proofs.Lists.{list_length}
+use Rattle.fq_laws.proofs.Lists.{list_length}
 use Rattle.fq_model.specs.History.{history_of}
 use Rattle.fq_model.specs.Rules.{IsLegal}
 use Rattle.text_tests.proofs.report_tests.reported.Goals as goal

@@ -5,7 +5,7 @@ use Rattle.fq_model.specs.Fluid.{fluid, fluid_table}
 use Rattle.fq_model.specs.History.{History}
 use Rattle.fq_model.specs.Sums.{list_below}
 use Rattle.fluid_reference.specs.Slots.{slot_at}
-use Rattle.fluid_reference.proofs.Lists.{list_at, list_length}
+use Rattle.fq_laws.proofs.Lists.{list_at, list_length}
 use Rattle.text_tests.proofs.slot_tests.expect_served.Goals as goal
 
 -- each slot of a table tells of each tenant

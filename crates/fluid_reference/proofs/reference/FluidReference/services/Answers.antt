@@ -2,7 +2,7 @@ use Rattle.std.proofs.Common.{ℕ, zero, suc, ◌<◌, ◌≡◌, false, nat_eq,
 use Rattle.std.proofs.lemmas.Bool.{eqb-true, false≢true}
 use Rattle.fq_model.specs.Sums.{list_below}
 use Rattle.fluid_reference.specs.Slots.{column_of, number_at, replayed, slot_at}
-use Rattle.fluid_reference.proofs.Lists.{list_none}
+use Rattle.fq_laws.proofs.Lists.{list_none}
 use Rattle.fluid_reference.proofs.OfTenants.{if_ok}
 use Rattle.fluid_reference.proofs.Replays.{column_is, row_length, table_length}
 use Rattle.fluid_reference.proofs.reference.FluidReference.services.Goals as goal
